@@ -1,0 +1,258 @@
+-- THE DEMANDS. Each speaks of the definitions that the calls promise to keep, and so of the calls
+use mathlib.Core.Bool.{Bool, cond, false, true}
+use mathlib.Core.List.{List, [], _++_, map}
+use mathlib.Core.Logic.{_↔_, _≢_, _⊎_}
+use mathlib.Core.Option.{some}
+use mathlib.Core.Path.{_∙_, _≡_, ap, refl, subst, sym}
+use Prim.Native.Nat.{_*_, _+_, _<_, _≤_, ℕ}
+use native.Mathlib.Omega.{arith}
+use lib.Dec.{eqb}
+use lib.ListN.{drop, length, replicate, take}
+use lib.Seq.{length-sets}
+use borrow.Author.Tests.{eqb-false, eqb-true, le-ltb, ne-eqb}
+use Rattle.lists.specs.Lists.{All}
+use Rattle.strict.specs.Choices.{Choice}
+use Rattle.strict.specs.Histories.{kept, opened, unfinished}
+use Rattle.strict.specs.Operations.{Op, begun}
+use Rattle.strict.specs.Strict.{Log, Strict, _▷_, alone, run}
+use Rattle.strict.specs.declared.Procedure.{Procedure}
+use Rattle.service.specs.Admission.{State, answerOn, answerTo, isOpen, openMarks}
+use Rattle.service.specs.Calls.{abortCall, carried, commitCall, fresh, operationCall, padded, settled, startCall, startWorld}
+use Rattle.service.specs.Claims.{AsRecorded, Because, FirstHolder, Halts, Keeps, Reached, Reads, Stops, lasting, marksFrom, records, runAlone, tilesAfter}
+use Rattle.service.specs.Entry.{opIn}
+use Rattle.service.specs.History.{Call, From, call, event, history, operating, refusalsOf}
+use Rattle.service.specs.Journal.{encode, readAt, recordOf}
+use Rattle.service.specs.Laws.Accepting.{after-stands, carried-bytes, carried-places, carried-slots, carried-sound, decided-small, left-carried, lowest-told, none-told, passed, passes, small, told-done}
+use Rattle.service.specs.Laws.Deciding.{accepted-just, held-just, held-names, room-just}
+use Rattle.service.specs.Laws.Extents.{recordSize}
+use Rattle.service.specs.Laws.Halting.{numbers, refused-is, refused-just, starts-left}
+use Rattle.service.specs.Laws.Performing.{Arrived, answer-is, arrived, arrived-reached, stands, start-is, table-is, tiles-are}
+use Rattle.service.specs.Laws.Rebuilding.{cut-records, reads-back, rebuilds}
+use Rattle.service.specs.Laws.Soundness.{is-sound, sound-is}
+use Rattle.service.specs.Laws.Stopping.{stopped-because, stops-there}
+use Rattle.service.specs.Laws.Storing.{open-small}
+use Rattle.service.specs.Replay.{replayCall, stopped}
+use Rattle.service.specs.Sound.{Sound, soundB}
+use Rattle.service.specs.Tile.{addressCall, keyOf}
+use Rattle.service.specs.Told.{bare, done, refused}
+use Rattle.service.specs.World.{Reported, World, freeBytes, state, usedJournal, usedOperations, usedTiles, world}
+use Rattle.service.specs.declared.Address.{Address}
+use Rattle.service.specs.declared.Read.the-variants.{End}
+use Rattle.service.specs.declared.Record.{Record}
+
+-- 1. ONE NUMBER FROM THE LIST, AND A REFUSAL CHANGES NOTHING
+pub refusal-changes-nothing : (w : World) (c : Call) → call w c .told .number ≢ 0 → (call w c .after ≡ w) × (call w c .told .number ≤ 9)
+unfolding settled
+refusal-changes-nothing w c n = (
+  ap (λ b. cond b (carried w (event c)) w) (ne-eqb (call w c .told .number) 0 n),
+  decided-small (refusalsOf w c) (done (answerTo (state w) (event c))) (omega arith) (small w c),
+)
+
+-- the lowest number that applies is told
+pub lowest-given : (w : World) (c : Call) → All (λ r. r .applies ≡ true → (0 < call w c .told .number) × (call w c .told .number ≤ r .says .number)) (refusalsOf w c)
+lowest-given w c = lowest-told w c
+
+-- and 0 where none applies
+pub none-given : (w : World) (c : Call) → refused (refusalsOf w c) ≡ false → call w c .told ≡ done (answerTo (state w) (event c))
+none-given w c e = none-told w c e
+
+pub start-refused : (tiles : List ℕ) (count : ℕ) (operations journal : List ℕ) → startCall tiles count operations journal .told .number ≢ 0
+    → startCall tiles count operations journal ≡ record { told = bare 1; after = world (fresh 0) tiles operations journal }
+unfolding startCall
+start-refused tiles count operations journal n = go (soundB (startWorld tiles count operations journal)) n
+  where
+    chosen : Bool → Reported
+    chosen b = cond b (record { told = bare 0; after = startWorld tiles count operations journal }) (record { told = bare 1; after = world (fresh 0) tiles operations journal })
+
+    go : (b : Bool) → chosen b .told .number ≢ 0 → chosen b ≡ chosen false
+    go true h = absurd (h refl)
+    go false h = refl
+
+-- the test of soundness says what its sentences say
+pub sound-exact : (w : World) → (soundB w ≡ true) ↔ Sound w
+sound-exact w = (sound-is w, is-sound w)
+
+-- 2. ON EVERY SOUND WORLD, HOWEVER IT CAME ABOUT
+-- an accepted call leaves a sound world (the world was sound, or it would be refused by 1)
+pub accepted-keeps : (w : World) (c : Call) → length (w .session .marks) ≡ 64 → call w c .told .number ≡ 0 → Keeps w (call w c .after)
+accepted-keeps w c full ok =
+    let e = event c in
+    let p = passes w c (passed w c ok) in
+    subst (Keeps w) (sym (left-carried w c ok))
+    (record {
+      still-sound = is-sound (carried w e) (carried-sound w e full p);
+      all-marks = after-stands w e full p .all-jobs;
+      same-tiles = carried-places w e full p;
+      same-operations = carried-slots w e full p;
+      same-journal = length-sets (w .journal) (w .session .journal) (encode (recordOf e (answerTo (state w) e)));
+    })
+
+-- and so does every call, accepted or refused
+pub call-keeps : (w : World) (c : Call) → length (w .session .marks) ≡ 64 → soundB w ≡ true → Keeps w (call w c .after)
+call-keeps w c full sound = go (eqb (call w c .told .number) 0) refl
+  where
+    go : (b : Bool) → eqb (call w c .told .number) 0 ≡ b → Keeps w (call w c .after)
+    go true e = accepted-keeps w c full (eqb-true (call w c .told .number) 0 e)
+    go false e =
+        subst (Keeps w) (sym (refusal-changes-nothing w c (eqb-false (call w c .told .number) 0 e) .0))
+        (record { still-sound = sound; all-marks = full; same-tiles = refl; same-operations = refl; same-journal = refl })
+
+-- an accepted call writes its record after the used journal bytes, and no byte elsewhere
+pub accepted-writes : (w : World) (c : Call) → length (w .session .marks) ≡ 64 → call w c .told .number ≡ 0
+    → call w c .after .journal
+    ≡ usedJournal w ++ encode (recordOf (event c) (answerTo (state w) (event c))) ++ drop (w .session .journal + recordSize (event c)) (w .journal)
+accepted-writes w c full ok = ap (λ (v : World). v .journal) (left-carried w c ok) ∙ carried-bytes w (event c) full (passes w c (passed w c ok))
+
+-- an open job can commit, and can abort
+pub ends-accepted : (w : World) (job : ℕ) → length (w .session .marks) ≡ 64 → soundB w ≡ true → isOpen (state w) job ≡ true
+    → (commitCall w job .told ≡ bare 0) × (abortCall w job .told ≡ bare 0)
+unfolding settled
+ends-accepted w job full sound is-open =
+    let l = open-small (w .session .marks) job is-open in
+    let j = le-ltb 63 job (omega arith) in
+    (rw (sound, j, is-open), rw (sound, j, is-open))
+
+-- held is given just where an entry does not commute with the new operation, and names the job of the first
+pub held-names-first : (w : World) (job : ℕ) (p : Procedure) (a : Address) (k holder : ℕ)
+    → soundB w ≡ true → job ≤ 63 → isOpen (state w) job ≡ true → keyOf a ≡ some k
+    → (operationCall w job p a .told ≡ record { number = 6; answer = 0; holder = holder })
+    ↔ FirstHolder (begun job p (addressCall a .key) (usedTiles w)) (map opIn (usedOperations w)) holder
+held-names-first w job p a k holder sound small is-open has-key = held-names w job p a k sound small is-open has-key holder
+
+-- 3. A REPLAY OF ANY BYTES
+-- the numbers are 0, 1, 10, 11 and 12
+pub replay-numbers : (journal tiles : List ℕ) (count : ℕ) (operations : List ℕ) →
+    let n = replayCall journal tiles count operations .number in
+    (n ≡ 1) ⊎ Halts n
+replay-numbers journal tiles count operations = numbers journal tiles count operations
+
+-- 1 is given just where a start would be refused or the journal is too long, and changes nothing
+pub replay-refused : (journal tiles : List ℕ) (count : ℕ) (operations : List ℕ) → replayCall journal tiles count operations .number ≡ 1
+    → replayCall journal tiles count operations ≡ record { number = 1; offset = 0; undone = 0; count = count; tiles = tiles; operations = operations }
+replay-refused journal tiles count operations n = refused-is journal tiles count operations n
+
+pub replay-refused-exact : (journal tiles : List ℕ) (count : ℕ) (operations : List ℕ)
+    → (replayCall journal tiles count operations .number ≡ 1) ↔ ((soundB (startWorld tiles count operations []) ≡ false) ⊎ (65536 < length journal))
+replay-refused-exact journal tiles count operations = refused-just journal tiles count operations
+
+-- it stops at the end or a cut tail with 0, at a malformed record with 10, at one that is refused with 11, and else at an answer that differs with 12
+pub stops-because : (journal tiles : List ℕ) (count : ℕ) (operations : List ℕ) →
+    let h = stopped journal tiles count operations in
+    Because (length tiles) (length operations) (h .reached) (readAt journal (h .offset)) (h .number)
+stops-because journal tiles count operations = stopped-because journal tiles count operations
+
+-- and leaves what the journal cut at its offset leaves
+pub stops-as-cut : (journal tiles : List ℕ) (count : ℕ) (operations : List ℕ) →
+    let r = replayCall journal tiles count operations in
+    r .number ≢ 1
+    → replayCall (take (r .offset) journal) tiles count operations
+    ≡ record { number = 0; offset = r .offset; undone = r .undone; count = r .count; tiles = r .tiles; operations = r .operations }
+stops-as-cut journal tiles count operations n = stops-there journal tiles count operations n
+
+-- what it leaves, a start takes
+pub replay-starts : (journal tiles : List ℕ) (count : ℕ) (operations operations′ journal′ : List ℕ) →
+    let r = replayCall journal tiles count operations in
+    r .number ≢ 1 → 1 ≤ length operations′ → length operations′ ≤ 1024 → length journal′ ≤ 65536 → startCall (r .tiles) (r .count) operations′ journal′ .told ≡ bare 0
+replay-starts journal tiles count operations operations′ journal′ n a b c =
+    let r = replayCall journal tiles count operations in
+    ap (λ (x : Reported). x .told) (start-is (r .tiles) (r .count) operations′ journal′ (starts-left journal tiles count operations operations′ journal′ n a b c))
+
+-- 4. FROM A START
+module _ {tiles : List ℕ} {count : ℕ} {operations journal : List ℕ} {cs : Log Call} {w : World} (from : From tiles count operations journal cs w) where
+  -- the starting tiles; and the operations that the calls keep, with a new one among them
+  abbrev start-tiles : List ℕ
+  start-tiles = take count tiles
+
+  abbrev with-it : ℕ → Procedure → Address → Log Op
+  with-it job p a = kept start-tiles (history (cs ▷ operating job p a))
+
+  there : Arrived tiles count operations journal (history cs) w
+  there = arrived from
+
+  -- the session follows the history
+  pub reached : Reached start-tiles (history cs) w
+  reached = arrived-reached there
+
+  -- an operation of an open job on an address with a key: held just where the history with it added would not be strict
+  pub held-exact : (job : ℕ) (p : Procedure) (a : Address) (k : ℕ) → opened job (history cs) ≡ true → keyOf a ≡ some k
+      → (operationCall w job p a .told .number ≡ 6) ↔ (Strict alone start-tiles (with-it job p a) → ⊥)
+  held-exact job p a k o e =
+      held-just start-tiles (history cs) w (there .start-stands .ascending) reached (there .is-sound-there) job p a k o e
+
+  -- and, where that is strict, refused for want of tile room just where some way of keeping or dropping the unfinished operations,
+  -- it among them, needs more tiles than the table has
+  pub room-exact : (job : ℕ) (p : Procedure) (a : Address) (k : ℕ) → opened job (history cs) ≡ true → keyOf a ≡ some k
+      → Strict alone start-tiles (with-it job p a)
+      → (operationCall w job p a .told .number ≡ 7)
+      ↔ ((chosen : Log Op) × Choice (with-it job p a) chosen × (length tiles < length (run start-tiles chosen)))
+  room-exact job p a k o e strict =
+      subst
+      (λ N.
+      (operationCall w job p a .told .number ≡ 7)
+      ↔ ((chosen : Log Op) × Choice (with-it job p a) chosen × (N < length (run start-tiles chosen))))
+      (there .same-places)
+      (room-just start-tiles (history cs) w (there .start-stands .ascending) reached (there .is-sound-there) job p a k o e strict)
+
+  -- accepted just where it stays strict, no such way needs more tiles than the table has, and there is an entry's place and the bytes
+  pub accepted-exact : (job : ℕ) (p : Procedure) (a : Address) (k : ℕ) → opened job (history cs) ≡ true → keyOf a ≡ some k
+      → (operationCall w job p a .told .number ≡ 0)
+      ↔ (Strict alone start-tiles (with-it job p a)
+      × ((chosen : Log Op) → Choice (with-it job p a) chosen → length (run start-tiles chosen) ≤ length tiles)
+      × (w .session .operations < length (w .operations))
+      × (10 + 4 * openMarks (w .session .marks) ≤ freeBytes w))
+  accepted-exact job p a k o e =
+      subst
+      (λ N.
+      (operationCall w job p a .told .number ≡ 0)
+      ↔ (Strict alone start-tiles (with-it job p a)
+      × ((chosen : Log Op) → Choice (with-it job p a) chosen → length (run start-tiles chosen) ≤ N)
+      × (w .session .operations < length (w .operations))
+      × (10 + 4 * openMarks (w .session .marks) ≤ freeBytes w)))
+      (there .same-places)
+      (accepted-just start-tiles (history cs) w (there .start-stands .ascending) reached (there .is-sound-there) job p a k o e)
+
+  -- every job has its mark, and the tables keep their lengths
+  pub all-marks : length (w .session .marks) ≡ 64
+  all-marks =
+      ap (λ (x : State). length (x .marks)) (there .holds-state)
+      ∙ stands (length tiles) (length operations) start-tiles (there .start-stands) (history cs) (there .taken) .all-jobs
+
+  pub same-lengths : (length (w .tiles) ≡ length tiles) × (length (w .operations) ≡ length operations)
+  same-lengths = (there .same-places, there .same-slots)
+
+  -- accepted calls give the report's answers and effects
+  pub answers : (c : Call) → call w c .told .number ≡ 0 → call w c .told ≡ done (answerOn (tilesAfter start-tiles (history cs)) (event c))
+  answers c ok =
+      told-done w c ok
+      ∙ ap (λ x. done (answerTo x (event c))) (there .holds-state)
+      ∙ ap done (answer-is _ _ start-tiles (there .start-stands) (history cs) (there .taken) (event c))
+
+  pub effects : (usedTiles w ≡ tilesAfter start-tiles (history cs)) × (map opIn (usedOperations w) ≡ unfinished (kept start-tiles (history cs)))
+  effects = (
+    ap (λ (x : State). x .book .tiles) (there .holds-state) ∙ tiles-are _ _ start-tiles (there .start-stands) (history cs) (there .taken),
+    ap (λ (x : State). x .book .table) (there .holds-state) ∙ table-is _ _ start-tiles (there .start-stands) (history cs) (there .taken),
+  )
+
+  -- the used bytes, read record after record, are the calls with their answers and keys, and then the end
+  pub journal-reads-back : Reads (usedJournal w) 0 (records start-tiles (history cs)) (length (usedJournal w))
+      × (readAt (usedJournal w) (length (usedJournal w)) ≡ End)
+  journal-reads-back = reads-back there
+
+  -- the journal cut after n bytes, replayed onto the starting tiles: rs are the records that are whole in it, and `end` is the place after them
+  pub replay-exact : (n : ℕ) (operations′ : List ℕ) → length operations′ ≡ length operations
+      → (rs : List Record) (end : ℕ) → Reads (take n (usedJournal w)) 0 rs end → Stops (readAt (take n (usedJournal w)) end)
+      → (replayCall (take n (usedJournal w)) tiles count operations′
+      ≡ record {
+        number = 0;
+        offset = end;
+        undone = openMarks (marksFrom (replicate 64 false) rs);
+        count = length (runAlone start-tiles (lasting rs));
+        tiles = padded (length tiles) (runAlone start-tiles (lasting rs));
+        operations = replicate (length operations′) 0;
+      })
+      × AsRecorded start-tiles (lasting rs)
+  replay-exact n operations′ same rs end reads stops = rebuilds there n operations′ same rs end reads stops
+
+  -- and every cut has such records
+  pub cut-reads : (n : ℕ) → (rs : List Record) × (end : ℕ) × Reads (take n (usedJournal w)) 0 rs end × Stops (readAt (take n (usedJournal w)) end)
+  cut-reads n = cut-records there n

@@ -1,0 +1,15 @@
+pub mod Told
+pub mod Tile
+pub mod Entry
+pub mod Admission
+pub mod World
+pub mod Sound
+pub mod Journal
+pub mod Calls
+pub mod Replay
+pub mod History
+pub mod Claims
+pub mod Laws
+pub mod Addresses
+pub mod Demands
+pub mod Once

@@ -1,0 +1,10 @@
+pub mod Tiles
+pub mod Operations
+pub mod Strict
+pub mod Histories
+pub mod Commutativity
+pub mod Book
+pub mod Sound
+pub mod Choices
+pub mod Laws
+pub mod Theorems
