@@ -76,7 +76,7 @@ abbrev pub operationRefusals : World → ℕ → Procedure → Address → List 
 operationRefusals w job p a =
     refuse 1 (not (soundB w))
     ∷ refuse 2 (ltb 63 job)
-    ∷ refuse 3 (not (isOpen (state w) job))
+    ∷ refuse 3 (not (isOpen (state w) job))  -- before the address is looked at
     ∷ refuse 5 (eqb (addressCall a .number) 5)
     ∷ admission (length (w .tiles)) (length (w .operations)) (state w) job p (addressCall a .key)
     ++ (refuse 9 (ltb (freeBytes w) (10 + 4 * openMarks (w .session .marks))) ∷ [])

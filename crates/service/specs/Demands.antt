@@ -2,7 +2,7 @@
 use mathlib.Core.Bool.{Bool, cond, false, true}
 use mathlib.Core.List.{List, [], _++_, map}
 use mathlib.Core.Logic.{_↔_, _≢_, _⊎_}
-use mathlib.Core.Option.{some}
+use mathlib.Core.Option.{none, some}
 use mathlib.Core.Path.{_∙_, _≡_, ap, refl, subst, sym}
 use Prim.Native.Nat.{_*_, _+_, _<_, _≤_, ℕ}
 use native.Mathlib.Omega.{arith}
@@ -12,20 +12,22 @@ use lib.Seq.{length-sets}
 use borrow.Author.Tests.{eqb-false, eqb-true, le-ltb, ne-eqb}
 use Rattle.lists.specs.Lists.{All}
 use Rattle.strict.specs.Choices.{Choice}
+use Rattle.strict.specs.Commutativity.{FirstHolder}
 use Rattle.strict.specs.Histories.{kept, opened, unfinished}
 use Rattle.strict.specs.Operations.{Op, begun}
 use Rattle.strict.specs.Strict.{Log, Strict, _▷_, alone, run}
 use Rattle.strict.specs.declared.Procedure.{Procedure}
 use Rattle.service.specs.Admission.{State, answerOn, answerTo, isOpen, openMarks}
-use Rattle.service.specs.Calls.{abortCall, carried, commitCall, fresh, operationCall, padded, settled, startCall, startWorld}
-use Rattle.service.specs.Claims.{AsRecorded, Because, FirstHolder, Halts, Keeps, Reached, Reads, Stops, lasting, marksFrom, records, runAlone, tilesAfter}
+use Rattle.service.specs.Calls.{abortCall, carried, commitCall, fresh, openCall, operationCall, padded, settled, startCall, startWorld}
+use Rattle.service.specs.Claims.{AsRecorded, Because, Halts, Keeps, Reached, Reads, Stops, lasting, marksFrom, records, runAlone, tilesAfter}
 use Rattle.service.specs.Entry.{opIn}
-use Rattle.service.specs.History.{Call, From, call, event, history, operating, refusalsOf}
+use Rattle.service.specs.History.{Call, From, call, event, history, jobOf, operating, refusalsOf}
 use Rattle.service.specs.Journal.{encode, readAt, recordOf}
 use Rattle.service.specs.Laws.Accepting.{after-stands, carried-bytes, carried-places, carried-slots, carried-sound, decided-small, left-carried, lowest-told, none-told, passed, passes, small, told-done}
 use Rattle.service.specs.Laws.Deciding.{accepted-just, held-just, held-names, room-just}
 use Rattle.service.specs.Laws.Extents.{recordSize}
-use Rattle.service.specs.Laws.Halting.{numbers, refused-is, refused-just, starts-left}
+use Rattle.service.specs.Laws.Halting.{number-of-replay, refused-is, refused-just, starts-left}
+use Rattle.service.specs.Laws.Ordering.{WantsOpen, told-five, told-four, told-one, told-three, told-two}
 use Rattle.service.specs.Laws.Performing.{Arrived, answer-is, arrived, arrived-reached, stands, start-is, table-is, tiles-are}
 use Rattle.service.specs.Laws.Rebuilding.{cut-records, reads-back, rebuilds}
 use Rattle.service.specs.Laws.Soundness.{is-sound, sound-is}
@@ -55,6 +57,24 @@ lowest-given w c = lowest-told w c
 -- and 0 where none applies
 pub none-given : (w : World) (c : Call) → refused (refusalsOf w c) ≡ false → call w c .told ≡ done (answerTo (state w) (event c))
 none-given w c e = none-told w c e
+
+-- the order in which they are judged: 1 first, then 2, then 3 (of an open 4), then 5
+pub one-exact : (w : World) (c : Call) → (call w c .told .number ≡ 1) ↔ (soundB w ≡ false)
+one-exact w c = told-one w c
+
+pub two-exact : (w : World) (c : Call) → (call w c .told .number ≡ 2) ↔ ((soundB w ≡ true) × (63 < jobOf c))
+two-exact w c = told-two w c
+
+pub three-exact : (w : World) (c : Call) → WantsOpen c
+    → (call w c .told .number ≡ 3) ↔ ((soundB w ≡ true) × (jobOf c ≤ 63) × (isOpen (state w) (jobOf c) ≡ false))
+three-exact w c h = told-three w c h
+
+pub four-exact : (w : World) (job : ℕ) → (openCall w job .told .number ≡ 4) ↔ ((soundB w ≡ true) × (job ≤ 63) × (isOpen (state w) job ≡ true))
+four-exact w job = told-four w job
+
+pub five-exact : (w : World) (job : ℕ) (p : Procedure) (a : Address)
+    → (operationCall w job p a .told .number ≡ 5) ↔ ((soundB w ≡ true) × (job ≤ 63) × (isOpen (state w) job ≡ true) × (keyOf a ≡ none))
+five-exact w job p a = told-five w job p a
 
 pub start-refused : (tiles : List ℕ) (count : ℕ) (operations journal : List ℕ) → startCall tiles count operations journal .told .number ≢ 0
     → startCall tiles count operations journal ≡ record { told = bare 1; after = world (fresh 0) tiles operations journal }
@@ -116,7 +136,7 @@ ends-accepted w job full sound is-open =
 pub held-names-first : (w : World) (job : ℕ) (p : Procedure) (a : Address) (k holder : ℕ)
     → soundB w ≡ true → job ≤ 63 → isOpen (state w) job ≡ true → keyOf a ≡ some k
     → (operationCall w job p a .told ≡ record { number = 6; answer = 0; holder = holder })
-    ↔ FirstHolder (begun job p (addressCall a .key) (usedTiles w)) (map opIn (usedOperations w)) holder
+    ↔ FirstHolder alone (begun job p (addressCall a .key) (usedTiles w)) (map opIn (usedOperations w)) holder
 held-names-first w job p a k holder sound small is-open has-key = held-names w job p a k sound small is-open has-key holder
 
 -- 3. A REPLAY OF ANY BYTES
@@ -124,7 +144,7 @@ held-names-first w job p a k holder sound small is-open has-key = held-names w j
 pub replay-numbers : (journal tiles : List ℕ) (count : ℕ) (operations : List ℕ) →
     let n = replayCall journal tiles count operations .number in
     (n ≡ 1) ⊎ Halts n
-replay-numbers journal tiles count operations = numbers journal tiles count operations
+replay-numbers journal tiles count operations = number-of-replay journal tiles count operations
 
 -- 1 is given just where a start would be refused or the journal is too long, and changes nothing
 pub replay-refused : (journal tiles : List ℕ) (count : ℕ) (operations : List ℕ) → replayCall journal tiles count operations .number ≡ 1

@@ -15,6 +15,12 @@ pub data Call : Type 0 where
   opening committing aborting : ℕ → Call
   operating : ℕ → Procedure → Address → Call
 
+abbrev pub jobOf : Call → ℕ
+jobOf (opening job) = job
+jobOf (committing job) = job
+jobOf (aborting job) = job
+jobOf (operating job p a) = job
+
 -- a call as an event: each address as its key
 abbrev pub event : Call → Event
 event (opening job) = openJob job

@@ -14,3 +14,4 @@ pub mod Replaying
 pub mod Lasting
 pub mod Deciding
 pub mod Rebuilding
+pub mod Ordering

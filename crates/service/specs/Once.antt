@@ -1,16 +1,22 @@
--- A promise that equates what is told with one value leaves one answer, one session and one content of each table
+-- UNIQUENESS: each promise leaves one reply, one session and one content of each table
 use mathlib.Core.Bool.{cond, false, true}
-use mathlib.Core.List.{List}
+use mathlib.Core.List.{List, [], _∷_}
 use mathlib.Core.Path.{_∙_, _≡_, ap, refl, sym}
 use Prim.Native.Nat.{ℕ}
 use lib.Dec.{eqb}
-use Rattle.service.specs.Replay.{Rebuilt, rebuilt, stopNumber}
-use Rattle.service.specs.Tile.{Placed, placed}
+use lib.ListN.{getD}
+use Rattle.strict.specs.declared.Procedure.{Procedure}
+use Rattle.service.specs.Calls.{abortCall, commitCall, openCall, operationCall, startCall}
+use Rattle.service.specs.Journal.{readAt}
+use Rattle.service.specs.Replay.{Rebuilt, rebuilt, replayCall, stopNumber}
+use Rattle.service.specs.Tile.{Placed, addressCall, placed}
 use Rattle.service.specs.Told.{Told, told}
-use Rattle.service.specs.World.{Reported, reported}
+use Rattle.service.specs.World.{Reported, World, reported}
+use Rattle.service.specs.declared.Address.{Address}
 use Rattle.service.specs.declared.Located.{Located}
 use Rattle.service.specs.declared.Located.the-variants.{Key, Refused}
 use Rattle.service.specs.declared.Outcome.{Outcome}
+use Rattle.service.specs.declared.Read.{Read}
 use Rattle.service.specs.declared.Replayed.{Replayed}
 use Rattle.service.specs.declared.Reply.{Reply}
 use Rattle.service.specs.declared.Reply.the-variants.{AlreadyOpen, Done, Held, NoJournalRoom, NoOperationRoom, NoSuchJob, NoTileRoom, NotOpen, NotSound, OutOfRange}
@@ -18,35 +24,27 @@ use Rattle.service.specs.declared.Stop.{Stop}
 use Rattle.service.specs.declared.Stop.the-variants as stop
 
 -- the reply that is told so
-abbrev back : Told → Reply
-back t =
-    cond (eqb (t .number) 0) (Done (eqb (t .answer) 1))
-    (cond (eqb (t .number) 1) NotSound
-    (cond (eqb (t .number) 2) NoSuchJob
-    (cond (eqb (t .number) 3) NotOpen
-    (cond (eqb (t .number) 4) AlreadyOpen
-    (cond (eqb (t .number) 5) OutOfRange
-    (cond (eqb (t .number) 6) (Held (t .holder))
-    (cond (eqb (t .number) 7) NoTileRoom
-    (cond (eqb (t .number) 8) NoOperationRoom NoJournalRoom))))))))
+abbrev replyOf : Told → Reply
+replyOf t =
+    getD (Done (eqb (t .answer) 1) ∷ NotSound ∷ NoSuchJob ∷ NotOpen ∷ AlreadyOpen ∷ OutOfRange ∷ Held (t .holder) ∷ NoTileRoom ∷ NoOperationRoom ∷ []) (t .number) NoJournalRoom
 
-came-back : (r : Reply) → back (told r) ≡ r
-came-back (Done true) = refl
-came-back (Done false) = refl
-came-back NotSound = refl
-came-back NoSuchJob = refl
-came-back NotOpen = refl
-came-back AlreadyOpen = refl
-came-back OutOfRange = refl
-came-back (Held job) = refl
-came-back NoTileRoom = refl
-came-back NoOperationRoom = refl
-came-back NoJournalRoom = refl
+reply-back : (r : Reply) → replyOf (told r) ≡ r
+reply-back (Done true) = refl
+reply-back (Done false) = refl
+reply-back NotSound = refl
+reply-back NoSuchJob = refl
+reply-back NotOpen = refl
+reply-back AlreadyOpen = refl
+reply-back OutOfRange = refl
+reply-back (Held job) = refl
+reply-back NoTileRoom = refl
+reply-back NoOperationRoom = refl
+reply-back NoJournalRoom = refl
 
 pub told-once : (r s : Reply) → told r ≡ told s → r ≡ s
-told-once r s e = sym (came-back r) ∙ ap back e ∙ came-back s
+told-once r s e = sym (reply-back r) ∙ ap replyOf e ∙ reply-back s
 
--- a call
+-- two outcomes, with the tables as they were left, are the same
 pub record Same (r r′ : Outcome) (t t′ o o′ j j′ : List ℕ) : Type 0 where
   pub reply : r .reply ≡ r′ .reply
   pub session : r .session ≡ r′ .session
@@ -54,7 +52,11 @@ pub record Same (r r′ : Outcome) (t t′ o o′ j j′ : List ℕ) : Type 0 wh
   pub operations : o ≡ o′
   pub journal : j ≡ j′
 
-pub reported-once : (e : Reported) (r r′ : Outcome) (t t′ o o′ j j′ : List ℕ) → reported r t o j ≡ e → reported r′ t′ o′ j′ ≡ e → Same r r′ t t′ o o′ j j′
+-- a promise that what is reported is e
+abbrev pub Once : Reported → Type 0
+Once e = (r r′ : Outcome) (t t′ o o′ j j′ : List ℕ) → reported r t o j ≡ e → reported r′ t′ o′ j′ ≡ e → Same r r′ t t′ o o′ j j′
+
+reported-once : (e : Reported) → Once e
 reported-once e r r′ t t′ o o′ j j′ p q =
     let z = p ∙ sym q in
     record {
@@ -65,6 +67,21 @@ reported-once e r r′ t t′ o o′ j j′ p q =
       journal = ap (λ (x : Reported). x .after .journal) z;
     }
 
+pub start-once : (tiles : List ℕ) (count : ℕ) (operations journal : List ℕ) → Once (startCall tiles count operations journal)
+start-once tiles count operations journal = reported-once (startCall tiles count operations journal)
+
+pub open-once : (w : World) (job : ℕ) → Once (openCall w job)
+open-once w job = reported-once (openCall w job)
+
+pub operation-once : (w : World) (job : ℕ) (p : Procedure) (a : Address) → Once (operationCall w job p a)
+operation-once w job p a = reported-once (operationCall w job p a)
+
+pub commit-once : (w : World) (job : ℕ) → Once (commitCall w job)
+commit-once w job = reported-once (commitCall w job)
+
+pub abort-once : (w : World) (job : ℕ) → Once (abortCall w job)
+abort-once w job = reported-once (abortCall w job)
+
 -- the address step
 abbrev located : Placed → Located
 located p = cond (eqb (p .number) 0) (Key (p .key)) Refused
@@ -73,10 +90,14 @@ located-back : (l : Located) → located (placed l) ≡ l
 located-back (Key k) = refl
 located-back Refused = refl
 
-pub placed-once : (l m : Located) → placed l ≡ placed m → l ≡ m
-placed-once l m e = sym (located-back l) ∙ ap located e ∙ located-back m
+pub address-once : (a : Address) (l m : Located) → placed l ≡ addressCall a → placed m ≡ addressCall a → l ≡ m
+address-once a l m p q = sym (located-back l) ∙ ap located (p ∙ sym q) ∙ located-back m
 
--- a replay
+-- the reader
+pub read-once : (journal : List ℕ) (at : ℕ) (r s : Read) → r ≡ readAt journal at → s ≡ readAt journal at → r ≡ s
+read-once journal at r s p q = p ∙ sym q
+
+-- the replay
 abbrev stopOf : ℕ → Stop
 stopOf n = cond (eqb n 0) stop.Done (cond (eqb n 1) stop.NotSound (cond (eqb n 10) stop.Malformed (cond (eqb n 11) stop.NotAdmissible stop.AnswerDiffers)))
 
@@ -87,14 +108,17 @@ stop-back stop.Malformed = refl
 stop-back stop.NotAdmissible = refl
 stop-back stop.AnswerDiffers = refl
 
-pub rebuilt-once : (r r′ : Replayed) (t t′ o o′ : List ℕ) → rebuilt r t o ≡ rebuilt r′ t′ o′ → (r ≡ r′) × (t ≡ t′) × (o ≡ o′)
-rebuilt-once r r′ t t′ o o′ e = (
-  λ i. record {
-    stop = (sym (stop-back (r .stop)) ∙ ap (λ (x : Rebuilt). stopOf (x .number)) e ∙ stop-back (r′ .stop)) i;
-    offset = e i .offset;
-    undone = e i .undone;
-    tiles = e i .count;
-  },
-  ap (λ (x : Rebuilt). x .tiles) e,
-  ap (λ (x : Rebuilt). x .operations) e,
-)
+pub replay-once : (journal tiles : List ℕ) (count : ℕ) (operations : List ℕ) (r r′ : Replayed) (t t′ o o′ : List ℕ)
+    → rebuilt r t o ≡ replayCall journal tiles count operations → rebuilt r′ t′ o′ ≡ replayCall journal tiles count operations
+    → (r ≡ r′) × (t ≡ t′) × (o ≡ o′)
+replay-once journal tiles count operations r r′ t t′ o o′ p q =
+    let e = p ∙ sym q in (
+      λ i. record {
+        stop = (sym (stop-back (r .stop)) ∙ ap (λ (x : Rebuilt). stopOf (x .number)) e ∙ stop-back (r′ .stop)) i;
+        offset = e i .offset;
+        undone = e i .undone;
+        tiles = e i .count;
+      },
+      ap (λ (x : Rebuilt). x .tiles) e,
+      ap (λ (x : Rebuilt). x .operations) e,
+    )

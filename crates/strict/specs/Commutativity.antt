@@ -1,11 +1,12 @@
 -- The table of commutativity, the rule by which an operation is held, and Definition 2 of TR-92-43
 use mathlib.Core.Bool.{Bool, cond, false, not, true}
-use mathlib.Core.List.{List, [], _∷_}
+use mathlib.Core.List.{List, [], _++_, _∷_}
 use mathlib.Core.Option.{Option, none, some}
 use mathlib.Core.Path.{_≡_}
 use Prim.Native.Nat.{_-_, ℕ}
 use lib.Dec.{eqb}
 use lib.ListN.{getD}
+use Rattle.lists.specs.Lists.{All}
 use Rattle.strict.specs.Operations.{Op, Step, answer, apply, clear, effect, inverse, kind, put, recovery, skip}
 use Rattle.strict.specs.Strict.{Rule, alone}
 use Rattle.strict.specs.Tiles.{Ascending, member}
@@ -45,6 +46,16 @@ holds alone o u = not (commutes (kind (o .proc) (o .found)) (inverse u) (eqb (o 
 abbrev pub holder : Rule → Op → List Op → Option ℕ
 holder r o [] = none
 holder r o (u ∷ us) = cond (holds r o u) (some (u .job)) (holder r o us)
+
+-- us has, at one place, the first operation that holds o, and it is one of job's
+pub record FirstHolder (r : Rule) (o : Op) (us : List Op) (job : ℕ) : Type 0 where
+  pub earlier : List Op
+  pub entry : Op
+  pub later : List Op
+  pub placed-so : us ≡ earlier ++ (entry ∷ later)
+  pub none-earlier : All (λ u. holds r o u ≡ false) earlier
+  pub holds-it : holds r o entry ≡ true
+  pub of-job : entry .job ≡ job
 
 -- the recovery has something to take back
 abbrev pub changes : Step → Bool

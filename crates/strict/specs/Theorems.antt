@@ -1,19 +1,20 @@
--- THE THEORY, in eight theorems. Every hypothesis speaks of the tiles and the history, and of nothing that a service says
+-- THE THEORY, in nine theorems. Every hypothesis speaks of the tiles and the history, and of nothing that a service says
 use mathlib.Core.Bool.{Bool, true}
 use mathlib.Core.List.{List}
 use mathlib.Core.Logic.{_↔_}
-use mathlib.Core.Option.{none}
+use mathlib.Core.Option.{none, some}
 use mathlib.Core.Path.{_≡_}
 use Prim.Native.Nat.{_<_, ℕ}
 use lib.Dec.{eqb}
 use lib.ListN.{length}
 use Rattle.strict.specs.Book.{Admitted, Book, bookAfter, heldBy, recover, spokenFor, step, sweep}
 use Rattle.strict.specs.Choices.{Choice, StrictLists}
-use Rattle.strict.specs.Commutativity.{Commutes, commutes}
+use Rattle.strict.specs.Commutativity.{Commutes, FirstHolder, commutes, holder}
 use Rattle.strict.specs.Histories.{Event, abort, kept, opened, operation, strike, unfinished}
 use Rattle.strict.specs.Laws.Ending.{oldestFirst, recover-either-way}
 use Rattle.strict.specs.Laws.Exactness.{held-exactly}
 use Rattle.strict.specs.Laws.Following.{follows, same-book}
+use Rattle.strict.specs.Laws.Holding.{holder-first}
 use Rattle.strict.specs.Laws.Listwise.{to-lists, to-places}
 use Rattle.strict.specs.Laws.Room.{room-exactly}
 use Rattle.strict.specs.Laws.Soundness.{Unheld, step-sound}
@@ -28,6 +29,10 @@ use Rattle.strict.specs.declared.Procedure.{Procedure}
 -- the six by five table is Definition 2 of the report, at each of its thirty entries
 pub table-exact : (p : Procedure) (found : Bool) (k : ℕ) (r : Step) (i : ℕ) → (commutes (kind p found) r (eqb k i) ≡ true) ↔ Commutes p found k r i
 table-exact p found k r i = definition-2 p found k r i
+
+-- the holder named is the first, in order of admission, that does not commute
+pub first-holder : (o : Op) (us : List Op) (job : ℕ) → (holder alone o us ≡ some job) ↔ FirstHolder alone o us job
+first-holder o us job = holder-first alone o us job
 
 -- strict by places is strict by lists, as the report's Definition 1 words it
 pub strict-by-lists : (s : List ℕ) (os : Log Op) → Strict alone s os ↔ StrictLists s os

@@ -83,10 +83,10 @@ decided-small (r ∷ rs) t l h = go (r .applies) (decided-small rs t l (h .1))
     go false i = i
 
 -- THE LOWEST NUMBER
-abbrev numbers : List Refusal → List ℕ
+abbrev pub numbers : List Refusal → List ℕ
 numbers rs = map (λ r. r .says .number) rs
 
-rising : (w : World) (c : Call) → Above 0 (numbers (refusalsOf w c))
+pub rising : (w : World) (c : Call) → Above 0 (numbers (refusalsOf w c))
 rising w (opening job) = (omega arith, (omega arith, (omega arith, (omega arith, tt))))
 rising w (committing job) = (omega arith, (omega arith, (omega arith, tt)))
 rising w (aborting job) = (omega arith, (omega arith, (omega arith, tt)))

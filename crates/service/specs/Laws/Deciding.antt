@@ -1,6 +1,6 @@
 -- Held, tile room and acceptance, exactly
-use mathlib.Core.Bool.{Bool, _&&_, cond, false, true}
-use mathlib.Core.List.{List, [], _++_, _∷_}
+use mathlib.Core.Bool.{Bool, _&&_, false, true}
+use mathlib.Core.List.{List, [], _∷_}
 use mathlib.Core.Logic.{_↔_, _≢_}
 use mathlib.Core.Option.{Option, none, some}
 use mathlib.Core.Path.{_∙_, _≡_, ap, refl, subst, sym}
@@ -10,22 +10,21 @@ use lib.Dec.{eqb, leb, ltb}
 use lib.ListN.{length, length-map}
 use lib.Seq.{length-take-le}
 use borrow.Author.Tests.{eq-eqb, eqb-false, eqb-true, le-ltb, leb-false, leb-true, ltb-false, ne-eqb}
-use Rattle.lists.specs.Lists.{All}
 use Rattle.lists.specs.Truth.{never, oneIf}
 use Rattle.strict.specs.Book.{bookAfter, heldBy, needsPlace, spokenFor, step}
 use Rattle.strict.specs.Choices.{Choice}
-use Rattle.strict.specs.Commutativity.{holder, holds}
+use Rattle.strict.specs.Commutativity.{FirstHolder, holder}
 use Rattle.strict.specs.Histories.{Event, kept, opened, operation}
 use Rattle.strict.specs.Laws.Room.{room-operation}
 use Rattle.strict.specs.Laws.Sweeping.{few-jobs}
 use Rattle.strict.specs.Operations.{Op, begun}
 use Rattle.strict.specs.Strict.{Log, Strict, _▷_, alone, run}
-use Rattle.strict.specs.Theorems.{held-is-exact, room-is-exact}
+use Rattle.strict.specs.Theorems.{first-holder, held-is-exact, room-is-exact}
 use Rattle.strict.specs.Tiles.{Ascending}
 use Rattle.strict.specs.declared.Procedure.{Procedure}
 use Rattle.service.specs.Admission.{answerTo, isOpen, openMarks}
 use Rattle.service.specs.Calls.{operationCall, settled}
-use Rattle.service.specs.Claims.{FirstHolder, Reached}
+use Rattle.service.specs.Claims.{Reached}
 use Rattle.service.specs.Entry.{opIn}
 use Rattle.service.specs.Sound.{Sound, soundB}
 use Rattle.service.specs.Tile.{addressCall, keyOf, placedAt}
@@ -72,29 +71,6 @@ module _ (t : Told) (z : t .number ≡ 0) where
   told-zero none false false true = (λ e. absurd (omega arith), λ c. never (c .3))
   told-zero none false false false = (λ e. (refl, refl, refl, refl), λ c. z)
 
--- THE FIRST HOLDER
-first-holder : (o : Op) (us : List Op) (job : ℕ) → holder alone o us ≡ some job → FirstHolder o us job
-first-holder o [] job e = absurd (some-not-none job (sym e))
-first-holder o (u ∷ us) job e = go (holds alone o u) refl e (first-holder o us job)
-  where
-    go : (b : Bool) → holds alone o u ≡ b → cond b (some (u .job)) (holder alone o us) ≡ some job → (holder alone o us ≡ some job → FirstHolder o us job) → FirstHolder o (u ∷ us) job
-    go true q e ih = record { earlier = []; entry = u; later = us; placed-so = refl; none-earlier = tt; holds-it = q; of-job = cc }
-    go false q e ih =
-        let i = ih e in
-        record {
-          earlier = u ∷ i .earlier;
-          entry = i .entry;
-          later = i .later;
-          placed-so = ap {B = List Op} (λ l. u ∷ l) (i .placed-so);
-          none-earlier = (q, i .none-earlier);
-          holds-it = i .holds-it;
-          of-job = i .of-job;
-        }
-
-holder-first : (o : Op) (xs : List Op) (u : Op) (ys : List Op) → All (λ v. holds alone o v ≡ false) xs → holds alone o u ≡ true → holder alone o (xs ++ (u ∷ ys)) ≡ some (u .job)
-holder-first o [] u ys n e = rw e
-holder-first o (x ∷ xs) u ys n e = rw (n .0) (holder-first o xs u ys (n .1) e)
-
 -- an address with a key is not refused
 keyed : (a : Address) (k : ℕ) → keyOf a ≡ some k → eqb (addressCall a .number) 5 ≡ false
 keyed a k e = ap (λ o. eqb (placedAt o .number) 5) e
@@ -128,14 +104,11 @@ module _ (w : World) (job : ℕ) (p : Procedure) (a : Address) (k : ℕ) (sound 
   told-is = rw (sound, le-ltb 63 job small, is-open, keyed a k has-key)
 
   -- on every such world 6 is told, with its job, just where the table has a first holder
-  pub held-names : (i : ℕ) → (operationCall w job p a .told ≡ heldTold i) ↔ FirstHolder (begun job p (keyFor a) (state w .book .tiles)) (state w .book .table) i
+  pub held-names : (i : ℕ) → (operationCall w job p a .told ≡ heldTold i) ↔ FirstHolder alone (begun job p (keyFor a) (state w .book .tiles)) (state w .book .table) i
   held-names i =
-      let new = begun job p (keyFor a) (state w .book .tiles) in
-      let iff = told-holder (answered w job p a) refl (heldThere w job p a) (noPlace w job p a) (noSlot w) (noBytes w) i in (
-        λ e. first-holder new (state w .book .table) i (iff .0 (sym told-is ∙ e)),
-        λ f. told-is ∙ iff .1
-            (ap (holder alone new) (f .placed-so) ∙ holder-first new (f .earlier) (f .entry) (f .later) (f .none-earlier) (f .holds-it) ∙ ap {B = Option ℕ} some (f .of-job)),
-      )
+      let first = first-holder (begun job p (keyFor a) (state w .book .tiles)) (state w .book .table) i in
+      let iff = told-holder (answered w job p a) refl (heldThere w job p a) (noPlace w job p a) (noSlot w) (noBytes w) i in
+      (λ e. first .0 (iff .0 (sym told-is ∙ e)), λ f. told-is ∙ iff .1 (first .1 f))
 
 -- FROM A START
 -- the test of room is that the operation would need more places than there are

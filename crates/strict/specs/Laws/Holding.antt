@@ -1,14 +1,16 @@
 -- The rule in an orderly list: there is a holder just where an unfinished operation changed the tile
 use mathlib.Core.Bool.{Bool, _&&_, _||_, and-false, cond, false, not, or-false, or-true, true}
 use mathlib.Core.List.{List, [], _++_, _∷_}
+use mathlib.Core.Logic.{_↔_}
 use mathlib.Core.Option.{Option, none, some}
 use mathlib.Core.Path.{_∙_, _≡_, ap, ap₂, refl, sym}
 use Prim.Native.Nat.{_<_, ℕ}
 use native.Mathlib.Omega.{arith}
 use lib.Dec.{eqb}
 use borrow.Author.Tests.{eqb-true, ne-eqb, not-true}
+use Rattle.lists.specs.Lists.{All}
 use Rattle.lists.specs.Truth.{Same, both, both-false, eqb-same, never, or-left, or-right, other, same, same?}
-use Rattle.strict.specs.Commutativity.{changes, commutes, entryAt, holder, holds}
+use Rattle.strict.specs.Commutativity.{FirstHolder, changes, commutes, entryAt, holder, holds}
 use Rattle.strict.specs.Histories.{marked, unfinished}
 use Rattle.strict.specs.Laws.Members.{member-apply, touch}
 use Rattle.strict.specs.Laws.Undoing.{Orderly, own, pinned, touch-off}
@@ -198,3 +200,32 @@ held-pinned alone s o os h f new = go (pinned (λ u. false) (o .key) os) refl
 pub holder-pinned : (r : Rule) (s : List ℕ) (o : Op) (os : Log Op) → Orderly r s os → o .found ≡ member (o .key) (run s os) → o .done ≡ false
     → foundOne (holder r o (unfinished os)) ≡ pinned (own r o) (o .key) os
 holder-pinned r s o os h f new = holder-held r o os ∙ held-pinned r s o os h f new
+
+-- the first holder
+names-first : (r : Rule) (o : Op) (us : List Op) (job : ℕ) → holder r o us ≡ some job → FirstHolder r o us job
+names-first r o [] job e = never (sym (ap foundOne e))
+names-first r o (u ∷ us) job e = go (holds r o u) refl e (names-first r o us job)
+  where
+    go : (b : Bool) → holds r o u ≡ b → cond b (some (u .job)) (holder r o us) ≡ some job → (holder r o us ≡ some job → FirstHolder r o us job) → FirstHolder r o (u ∷ us) job
+    go true q e ih = record { earlier = []; entry = u; later = us; placed-so = refl; none-earlier = tt; holds-it = q; of-job = cc }
+    go false q e ih =
+        let i = ih e in
+        record {
+          earlier = u ∷ i .earlier;
+          entry = i .entry;
+          later = i .later;
+          placed-so = ap {B = List Op} (λ l. u ∷ l) (i .placed-so);
+          none-earlier = (q, i .none-earlier);
+          holds-it = i .holds-it;
+          of-job = i .of-job;
+        }
+
+first-named : (r : Rule) (o : Op) (xs : List Op) (u : Op) (ys : List Op) → All (λ v. holds r o v ≡ false) xs → holds r o u ≡ true → holder r o (xs ++ (u ∷ ys)) ≡ some (u .job)
+first-named r o [] u ys n e = rw e
+first-named r o (x ∷ xs) u ys n e = rw (n .0) (first-named r o xs u ys (n .1) e)
+
+pub holder-first : (r : Rule) (o : Op) (us : List Op) (job : ℕ) → (holder r o us ≡ some job) ↔ FirstHolder r o us job
+holder-first r o us job = (
+  names-first r o us job,
+  λ f. ap (holder r o) (f .placed-so) ∙ first-named r o (f .earlier) (f .entry) (f .later) (f .none-earlier) (f .holds-it) ∙ ap {B = Option ℕ} some (f .of-job),
+)
