@@ -51,7 +51,8 @@ refusal-changes-nothing w c n = (
 )
 
 -- the lowest number that applies is told
-pub lowest-given : (w : World) (c : Call) → All (λ r. r .applies ≡ true → (0 < call w c .told .number) × (call w c .told .number ≤ r .says .number)) (refusalsOf w c)
+pub lowest-given : (w : World) (c : Call)
+    → All (λ r. r .applies ≡ true → (0 < call w c .told .number) × (call w c .told .number ≤ r .says .number)) (refusalsOf w c)
 lowest-given w c = lowest-told w c
 
 -- and 0 where none applies
@@ -172,7 +173,8 @@ stops-as-cut journal tiles count operations n = stops-there journal tiles count 
 -- what it leaves, a start takes
 pub replay-starts : (journal tiles : List ℕ) (count : ℕ) (operations operations′ journal′ : List ℕ) →
     let r = replayCall journal tiles count operations in
-    r .number ≢ 1 → 1 ≤ length operations′ → length operations′ ≤ 1024 → length journal′ ≤ 65536 → startCall (r .tiles) (r .count) operations′ journal′ .told ≡ bare 0
+    r .number ≢ 1 → 1 ≤ length operations′ → length operations′ ≤ 1024 → length journal′ ≤ 65536
+    → startCall (r .tiles) (r .count) operations′ journal′ .told ≡ bare 0
 replay-starts journal tiles count operations operations′ journal′ n a b c =
     let r = replayCall journal tiles count operations in
     ap (λ (x : Reported). x .told) (start-is (r .tiles) (r .count) operations′ journal′ (starts-left journal tiles count operations operations′ journal′ n a b c))

@@ -10,7 +10,7 @@ use Rattle.strict.specs.declared.Procedure.the-variants.{Ins, Mem}
 use Rattle.service.specs.Calls.{fresh, settled, startCall}
 use Rattle.service.specs.Cases.{A, B, Exchange, _↝_, a, address, from, heldBy1, ok, toldBy}
 use Rattle.service.specs.History.{aborting, committing, opening, operating}
-use Rattle.service.specs.Journal.{encode, readAt}
+use Rattle.service.specs.Journal.{encode, placeAfter, readAt, readNumber, readOffset}
 use Rattle.service.specs.Sound.{soundB, tabledB}
 use Rattle.service.specs.Tile.{Placed, addressCall, isKey, keyOf}
 use Rattle.service.specs.Told.{bare, done}
@@ -165,3 +165,12 @@ malformed : map (λ bytes. readAt bytes 0)
     ≡ replicate 8 Malformed
 unfolding isKey readAt
 malformed = refl
+
+-- the reader's number, the offset that only 10 carries, and its place afterwards: at an open record, at the end, at a cut and at a wrong tag
+abbrev readerAt : List ℕ → ℕ → List ℕ
+readerAt journal at = let r = readAt journal at in readNumber r ∷ readOffset r at ∷ placeAfter r at ∷ []
+
+readers : readerAt (9 ∷ 1 ∷ 0 ∷ 1 ∷ 3 ∷ []) 1 ∷ readerAt (1 ∷ []) 1 ∷ readerAt (9 ∷ 1 ∷ 0 ∷ []) 1 ∷ readerAt (9 ∷ 9 ∷ []) 1 ∷ []
+    ≡ (0 ∷ 0 ∷ 5 ∷ []) ∷ (0 ∷ 0 ∷ 1 ∷ []) ∷ (0 ∷ 0 ∷ 1 ∷ []) ∷ (10 ∷ 1 ∷ 1 ∷ []) ∷ []
+unfolding isKey readAt
+readers = refl

@@ -43,7 +43,8 @@ pub either-order : (j : ℕ) (t : List ℕ) (us : List Op) → Ascending t → S
 either-order j t us asc sound = recover-either-way j t us t asc sound
 
 -- on every sound table, however it came about, what the rule admits leaves a sound table
-pub step-keeps-sound : (m : Book) (e : Event) → SoundTable alone (m .tiles) (m .table) → Unheld alone m e → SoundTable alone (step m e .tiles) (step m e .table)
+pub step-keeps-sound : (m : Book) (e : Event) → SoundTable alone (m .tiles) (m .table) → Unheld alone m e
+    → SoundTable alone (step m e .tiles) (step m e .table)
 step-keeps-sound m e sound unheld = step-sound alone m e sound unheld
 
 module _ (s : List ℕ) (h : Log Event) (ascending : Ascending s) (admitted : Admitted alone s h) where

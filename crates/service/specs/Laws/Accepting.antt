@@ -100,7 +100,8 @@ all-above : (n : ℕ) (rs : List Refusal) → Above n (numbers rs) → All (λ r
 all-above n [] a = tt
 all-above n (r ∷ rs) a = (λ e. let l = a .0 in omega arith, all-above n rs (above-less (numbers rs) (a .0) (a .1)))
 
-lowest : (n : ℕ) (rs : List Refusal) (t : Told) → Above n (numbers rs) → All (λ r. r .applies ≡ true → (n < decided rs t .number) × (decided rs t .number ≤ r .says .number)) rs
+lowest : (n : ℕ) (rs : List Refusal) (t : Told) → Above n (numbers rs)
+    → All (λ r. r .applies ≡ true → (n < decided rs t .number) × (decided rs t .number ≤ r .says .number)) rs
 lowest n [] t a = tt
 lowest n (r ∷ rs) t a = go (r .applies) (lowest (r .says .number) rs t (a .1))
   where
@@ -121,7 +122,8 @@ lowest n (r ∷ rs) t a = go (r .applies) (lowest (r .says .number) rs t (a .1))
     go true ih = (λ e. (a .0, omega arith), from-first rs (all-above (r .says .number) rs (a .1)))
     go false ih = (λ e. never (sym e), lower (decided rs t .number) rs ih)
 
-pub lowest-told : (w : World) (c : Call) → All (λ r. r .applies ≡ true → (0 < call w c .told .number) × (call w c .told .number ≤ r .says .number)) (refusalsOf w c)
+pub lowest-told : (w : World) (c : Call)
+    → All (λ r. r .applies ≡ true → (0 < call w c .told .number) × (call w c .told .number ≤ r .says .number)) (refusalsOf w c)
 unfolding settled
 lowest-told w c = lowest 0 (refusalsOf w c) (done (answerTo (state w) (event c))) (rising w c)
 
@@ -149,7 +151,8 @@ pub record Passes (w : World) (e : Event) : Type 0 where
   pub named : Named e
   pub unrefused-by : refused (refusals (length (w .tiles)) (length (w .operations)) (state w) e) ≡ false
   pub bytes-fit : w .session .journal + recordSize e ≤ length (w .journal)
-  pub ends-fit : length (w .session .marks) ≡ 64 → 4 * openMarks (marksAfter (w .session .marks) e) ≤ length (w .journal) - (w .session .journal + recordSize e)
+  pub ends-fit : length (w .session .marks) ≡ 64
+      → 4 * openMarks (marksAfter (w .session .marks) e) ≤ length (w .journal) - (w .session .journal + recordSize e)
 
 none-applies : (rs : List Refusal) → All (λ r. r .applies ≡ false) rs → refused rs ≡ false
 none-applies [] h = refl
@@ -168,7 +171,8 @@ passes-open w job p =
       ends-fit = λ m. let n = opens-one (w .session .marks) job (p .1 .1 .0) (omega arith) in omega arith;
     }
 
-passes-operation : (w : World) (job : ℕ) (p : Procedure) (a : Address) → All (λ r. r .applies ≡ false) (operationRefusals w job p a) → Passes w (operation job p (addressCall a .key))
+passes-operation : (w : World) (job : ℕ) (p : Procedure) (a : Address) → All (λ r. r .applies ≡ false) (operationRefusals w job p a)
+    → Passes w (operation job p (addressCall a .key))
 passes-operation w job p a h =
     let o = sound-is w (not-false (soundB w) (h .0)) in
     let k = addressCall a .key in

@@ -104,7 +104,8 @@ module _ (w : World) (job : ℕ) (p : Procedure) (a : Address) (k : ℕ) (sound 
   told-is = rw (sound, le-ltb 63 job small, is-open, keyed a k has-key)
 
   -- on every such world 6 is told, with its job, just where the table has a first holder
-  pub held-names : (i : ℕ) → (operationCall w job p a .told ≡ heldTold i) ↔ FirstHolder alone (begun job p (keyFor a) (state w .book .tiles)) (state w .book .table) i
+  pub held-names : (i : ℕ)
+      → (operationCall w job p a .told ≡ heldTold i) ↔ FirstHolder alone (begun job p (keyFor a) (state w .book .tiles)) (state w .book .table) i
   held-names i =
       let first = first-holder (begun job p (keyFor a) (state w .book .tiles)) (state w .book .table) i in
       let iff = told-holder (answered w job p a) refl (heldThere w job p a) (noPlace w job p a) (noSlot w) (noBytes w) i in
@@ -135,7 +136,8 @@ module _ (s : List ℕ) (h : Log Event) (w : World) (asc : Ascending s) (r : Rea
       (λ e strict. six .0 (sym number-is ∙ e) (held-iff .1 strict), λ f. number-is ∙ six .1 (λ n. f (held-iff .0 n)))
 
   -- some choice needs more places than there are just where the check of room fails
-  room-iff : heldThere w job p a ≡ none → ((chosen : Log Op) × Choice together chosen × (length (w .tiles) < length (run s chosen))) ↔ (noPlace w job p a ≡ true)
+  room-iff : heldThere w job p a ≡ none
+      → ((chosen : Log Op) × Choice together chosen × (length (w .tiles) < length (run s chosen))) ↔ (noPlace w job p a ≡ true)
   room-iff free =
       let m = bookAfter s h in
       let new = begun job p (keyFor a) (state w .book .tiles) in
@@ -160,7 +162,8 @@ module _ (s : List ℕ) (h : Log Event) (w : World) (asc : Ascending s) (r : Rea
   slots-used = length-map (usedOperations w) opIn ∙ length-take-le (w .session .operations) (w .operations) (sound .tables .operations-fit)
 
   -- no choice needs more just where the check of room passes
-  fits-iff : heldThere w job p a ≡ none → (noPlace w job p a ≡ false) ↔ ((chosen : Log Op) → Choice together chosen → length (run s chosen) ≤ length (w .tiles))
+  fits-iff : heldThere w job p a ≡ none
+      → (noPlace w job p a ≡ false) ↔ ((chosen : Log Op) → Choice together chosen → length (run s chosen) ≤ length (w .tiles))
   fits-iff free = (
     λ e chosen c. go chosen c e (leb (length (run s chosen)) (length (w .tiles))) refl,
     λ f. not-full (noPlace w job p a) (λ e. let c = room-iff free .1 e in let l = f (c .0) (c .1) in let g = c .2 in omega arith),

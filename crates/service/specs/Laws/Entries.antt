@@ -90,7 +90,8 @@ module _ (marks : List Bool) (e : ℕ) (h : Entry marks e) where
   changes-kind =
       by-kind (λ n. changes (recovery (procedureOfKind n) (foundOfKind n)) ≡ changing n) refl refl refl refl refl refl (kindIn e) (h .kind-low) (h .kind-high)
 
-  as-left-kind : (m : Bool) → (kindIn e ≡ 1 → m ≡ true) → (kindIn e ≡ 3 → m ≡ false) → changes (inverse (opIn e)) ≡ true → m ≡ not (foundOfKind (kindIn e))
+  as-left-kind : (m : Bool) → (kindIn e ≡ 1 → m ≡ true) → (kindIn e ≡ 3 → m ≡ false) → changes (inverse (opIn e)) ≡ true
+      → m ≡ not (foundOfKind (kindIn e))
   as-left-kind m =
       by-kind (λ n. (n ≡ 1 → m ≡ true) → (n ≡ 3 → m ≡ false) → changes (recovery (procedureOfKind n) (foundOfKind n)) ≡ true → m ≡ not (foundOfKind n))
       (λ a b c. a refl) (λ a b c. never (sym c)) (λ a b c. b refl) (λ a b c. never (sym c)) (λ a b c. never (sym c)) (λ a b c. never (sym c))

@@ -110,7 +110,8 @@ picks-finish f j (os ▷ o) = ap₂ (λ l b. l ++ cond b (noted o ∷ []) []) (p
 
 picks-strike : (f : ℕ → Bool) (j : ℕ) (os : Log Op) → picks (λ i. not (eqb j i) && f i) os ≡ picks f (strike j os)
 picks-strike f j empty = refl
-picks-strike f j (os ▷ o) = ap (λ l. l ++ cond (o .done || (not (eqb j (o .job)) && f (o .job))) (noted o ∷ []) []) (picks-strike f j os) ∙ go (o .done) refl (eqb j (o .job))
+picks-strike f j (os ▷ o) = ap (λ l. l ++ cond (o .done || (not (eqb j (o .job)) && f (o .job))) (noted o ∷ []) []) (picks-strike f j os)
+    ∙ go (o .done) refl (eqb j (o .job))
   where
     go : (d : Bool) → o .done ≡ d → (e : Bool)
         → picks f (strike j os) ++ cond (d || (not e && f (o .job))) (noted o ∷ []) [] ≡ picks f (cond (not d && e) (strike j os) (strike j os ▷ o))
@@ -140,7 +141,8 @@ alone-last : (t : List ℕ) (os : List Operation) (o : Operation) → runAlone t
 alone-last t [] o = refl
 alone-last t (x ∷ os) o = alone-last (apply (effect (x .procedure)) (x .key) t) os o
 
-recorded-last : (t : List ℕ) (os : List Operation) (o : Operation) → AsRecorded t os → answer (o .procedure) (member (o .key) (runAlone t os)) ≡ o .answer
+recorded-last : (t : List ℕ) (os : List Operation) (o : Operation) → AsRecorded t os
+    → answer (o .procedure) (member (o .key) (runAlone t os)) ≡ o .answer
     → AsRecorded t (os ++ (o ∷ []))
 recorded-last t [] o h e = (e, tt)
 recorded-last t (x ∷ os) o h e = (h .0, recorded-last (apply (effect (x .procedure)) (x .key) t) os o (h .1) e)
@@ -158,7 +160,8 @@ recorded-picks : (s : List ℕ) (os : Log Op) → SameAnswers s (committed os) �
 recorded-picks s empty h = tt
 recorded-picks s (os ▷ o) h = go (o .done) h (recorded-picks s os)
   where
-    go : (d : Bool) → SameAnswers s (cond (not d) (committed os) (committed os ▷ o)) → (SameAnswers s (committed os) → AsRecorded s (picks undecided os))
+    go : (d : Bool) → SameAnswers s (cond (not d) (committed os) (committed os ▷ o))
+        → (SameAnswers s (committed os) → AsRecorded s (picks undecided os))
         → AsRecorded s (picks undecided os ++ cond (d || false) (noted o ∷ []) [])
     go true a ih = recorded-last s (picks undecided os) (noted o) (ih (a .0)) (ap (λ t. answer (o .proc) (member (o .key) t)) (alone-picks s os) ∙ a .1)
     go false a ih = subst (AsRecorded s) (sym (append-nil (picks undecided os))) (ih a)
@@ -190,7 +193,8 @@ stop-whole j at r n s e =
     ⊎-elim (λ (q : readAt j at ≡ End). let z : _≡_ {A = ℕ} 0 1 = cc in omega arith)
     (λ (q : readAt j at ≡ Cut). let z : _≡_ {A = ℕ} 0 1 = cc in omega arith) s
 
-pub reads-once : {j : List ℕ} {a b c d : ℕ} {rs qs : List Record} → a ≡ b → Reads j a rs c → Stops (readAt j c) → Reads j b qs d → Stops (readAt j d) → (rs ≡ qs) × (c ≡ d)
+pub reads-once : {j : List ℕ} {a b c d : ℕ} {rs qs : List Record} → a ≡ b → Reads j a rs c → Stops (readAt j c) → Reads j b qs d → Stops (readAt j d)
+    → (rs ≡ qs) × (c ≡ d)
 reads-once p stay x stay y = (refl, p)
 reads-once {j} p stay x (more {at = b} {next = n} {r = r} e z) y = absurd (stop-whole j b r n (subst (λ i. Stops (readAt j i)) p x) e)
 reads-once {j} p (more {at = a} {next = n} {r = r} e z) x stay y = absurd (stop-whole j a r n (subst (λ i. Stops (readAt j i)) (sym p) y) e)

@@ -118,15 +118,18 @@ module _ (tiles : List ℕ) (count : ℕ) (operations journal : List ℕ) where
   unfolding startCall
   start-told = go (soundB (startWorld tiles count operations journal))
     where
-      go : (b : Bool) → eqb (cond {A = Reported} b (record { told = bare 0; after = startWorld tiles count operations journal }) (record { told = bare 1; after = world (fresh 0) tiles operations journal }) .told .number) 0 ≡ b
+      go : (b : Bool)
+          → eqb (cond {A = Reported} b (record { told = bare 0; after = startWorld tiles count operations journal }) (record { told = bare 1; after = world (fresh 0) tiles operations journal }) .told .number) 0 ≡ b
       go true = refl
       go false = refl
 
-  pub start-is : soundB (startWorld tiles count operations journal) ≡ true → startCall tiles count operations journal ≡ record { told = bare 0; after = startWorld tiles count operations journal }
+  pub start-is : soundB (startWorld tiles count operations journal) ≡ true
+      → startCall tiles count operations journal ≡ record { told = bare 0; after = startWorld tiles count operations journal }
   unfolding startCall
   start-is e = rw e
 
-  arrived-start : soundB (startWorld tiles count operations journal) ≡ true → Arrived tiles count operations journal empty (startWorld tiles count operations journal)
+  arrived-start : soundB (startWorld tiles count operations journal) ≡ true
+      → Arrived tiles count operations journal empty (startWorld tiles count operations journal)
   arrived-start e =
       let o = sound-is (startWorld tiles count operations journal) e in
       let n : length {A = ℕ} (replicate (length operations) 0) ≡ length operations = length-replicate (length operations) 0 in
@@ -141,12 +144,14 @@ module _ (tiles : List ℕ) (count : ℕ) (operations journal : List ℕ) where
         holds-journal = refl;
       }
 
-  arrived-next : (h : Log Event) (w : World) (e : Event) → Arrived tiles count operations journal h w → Passes w e → Arrived tiles count operations journal (h ▷ e) (carried w e)
+  arrived-next : (h : Log Event) (w : World) (e : Event) → Arrived tiles count operations journal h w → Passes w e
+      → Arrived tiles count operations journal (h ▷ e) (carried w e)
   arrived-next h w e a p =
       let s = take count tiles in
       let N = length tiles in
       let L = length operations in
-      let m : length (w .session .marks) ≡ 64 = ap (λ (x : State). length (x .marks)) (a .holds-state) ∙ stands N L s (a .start-stands) h (a .taken) .all-jobs in
+      let m : length (w .session .marks) ≡ 64 = ap (λ (x : State). length (x .marks)) (a .holds-state)
+      ∙ stands N L s (a .start-stands) h (a .taken) .all-jobs in
       let u : refused (refusals N L (performs s h) e) ≡ false = rw (a .same-places, a .same-slots, a .holds-state) at (p .unrefused-by) in
       let t : Taken N L s (h ▷ e) = (a .taken, p .named, u) in
       let q : perform (state w) e ≡ performs s (h ▷ e) = ap (λ x. perform x e) (a .holds-state) in

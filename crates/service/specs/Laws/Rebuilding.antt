@@ -91,8 +91,10 @@ module _ {tiles : List ℕ} {count : ℕ} {operations journal : List ℕ} {h₀ 
       ap (λ x. replayCall x tiles count operations′) j
       ∙ replays tiles count operations journal operations′ same (there .starts-sound) (written s h ++ sp .tail) short
       ∙ ap (settle N L) (halts N L s h t (sp .tail) (sp .stops)) in
-      let tiles-same : run s (committed (kept s h)) ≡ runAlone s (lasting rs) = sym (alone-committed s h) ∙ ap (λ x. runAlone s (lasting x)) (one-way .0) in
-      let marks-same : performs s h .marks ≡ marksFrom (replicate 64 false) rs = sym (marks-records s h) ∙ ap (marksFrom (replicate 64 false)) (one-way .0) in (
+      let tiles-same : run s (committed (kept s h)) ≡ runAlone s (lasting rs) = sym (alone-committed s h)
+      ∙ ap (λ x. runAlone s (lasting x)) (one-way .0) in
+      let marks-same : performs s h .marks ≡ marksFrom (replicate 64 false) rs = sym (marks-records s h)
+      ∙ ap (marksFrom (replicate 64 false)) (one-way .0) in (
         replayed ∙ settled-is N L s start h t
             ∙ (λ i. record {
               number = 0;

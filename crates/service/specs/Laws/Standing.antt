@@ -63,7 +63,8 @@ pub record Free (places slots : ℕ) (s : State) (job : ℕ) (p : Procedure) (k 
   pub some-room : needsPlace (begun job p k (s .book .tiles)) && eqb (spokenFor (s .book)) places ≡ false
   pub some-slot : eqb (length (s .book .table)) slots ≡ false
 
-pub admitted-free : (places slots : ℕ) (s : State) (job : ℕ) (p : Procedure) (k : ℕ) → All (λ r. r .applies ≡ false) (admission places slots s job p k) → Free places slots s job p k
+pub admitted-free : (places slots : ℕ) (s : State) (job : ℕ) (p : Procedure) (k : ℕ)
+    → All (λ r. r .applies ≡ false) (admission places slots s job p k) → Free places slots s job p k
 admitted-free places slots s job p k e = record { unheld = not-held (heldBy alone (s .book) job p k) (e .0); some-room = e .1 .0; some-slot = e .1 .1 .0 }
 
 -- sets of valid keys
@@ -88,7 +89,8 @@ module _ (P : ℕ → Type 0) where
   all-apply clear k t p h = all-delete k t h
   all-apply skip k t p h = h
 
-keys-recover : (marks : List Bool) (j : ℕ) (us : List Op) (t : List ℕ) → All (Storable marks) us → All (λ k. isKey k ≡ true) t → All (λ k. isKey k ≡ true) (recover j us t)
+keys-recover : (marks : List Bool) (j : ℕ) (us : List Op) (t : List ℕ) → All (Storable marks) us → All (λ k. isKey k ≡ true) t
+    → All (λ k. isKey k ≡ true) (recover j us t)
 keys-recover marks j [] t e h = h
 keys-recover marks j (u ∷ us) t e h =
     let ih = keys-recover marks j us t (e .1) h in
@@ -117,7 +119,8 @@ storable-end : (ms : List Bool) (job : ℕ) (us : List Op) → job < length ms �
 storable-end ms job [] l h = tt
 storable-end ms job (u ∷ us) l h = go (mine job u) refl (storable-end ms job us l (h .1))
   where
-    go : (b : Bool) → mine job u ≡ b → All (Storable (set ms job false)) (others job us) → All (Storable (set ms job false)) (cond b (others job us) (u ∷ others job us))
+    go : (b : Bool) → mine job u ≡ b → All (Storable (set ms job false)) (others job us)
+        → All (Storable (set ms job false)) (cond b (others job us) (u ∷ others job us))
     go true e i = i
     go false e i = (
       record {
@@ -143,7 +146,8 @@ room-left false places n e l = omega arith
 
 -- the step
 module _ (places slots : ℕ) (s : State) (h : Stands places slots s) where
-  stands-operation : (job : ℕ) (p : Procedure) (k : ℕ) → isKey k ≡ true → isOpen s job ≡ true → Free places slots s job p k → Stands places slots (perform s (operation job p k))
+  stands-operation : (job : ℕ) (p : Procedure) (k : ℕ) → isKey k ≡ true → isOpen s job ≡ true → Free places slots s job p k
+      → Stands places slots (perform s (operation job p k))
   stands-operation job p k valid is-open free =
       let t = s .book .tiles in
       let us = s .book .table in

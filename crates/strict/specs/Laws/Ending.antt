@@ -15,13 +15,6 @@ use Rattle.strict.specs.Sound.{FreeAfter, SoundTable}
 use Rattle.strict.specs.Strict.{Log, Rule, _▷_, alone, back, empty, run}
 use Rattle.strict.specs.Tiles.{Ascending, member}
 
-pub mine-unfinished : (j : ℕ) (o : Op) → mine j o ≡ true → o .done ≡ false
-mine-unfinished j o e = go (o .done) e
-  where
-    go : (d : Bool) → not d && eqb j (o .job) ≡ true → d ≡ false
-    go true e = sym e
-    go false e = refl
-
 pub run-finish : (j : ℕ) (s : List ℕ) (os : Log Op) → run s (finish j os) ≡ run s os
 run-finish j s empty = refl
 run-finish j s (os ▷ o) = ap (after o) (run-finish j s os)
@@ -66,7 +59,8 @@ recover-back j (os ▷ o) t = go (o .done) refl (recover-back j os)
     go true e ih = ih t
     go false e ih = recover-last j (unfinished os) o t ∙ rw e (ih _)
 
-pub recover-run : (r : Rule) (j : ℕ) (s : List ℕ) (os : Log Op) → Ascending s → Orderly r s os → recover j (unfinished os) (run s os) ≡ run s (strike j os)
+pub recover-run : (r : Rule) (j : ℕ) (s : List ℕ) (os : Log Op) → Ascending s → Orderly r s os
+    → recover j (unfinished os) (run s os) ≡ run s (strike j os)
 recover-run r j s os asc h = recover-back j os (run s os) ∙ orderly-back r s (ofJob j) asc (job-apart r j) os h
 
 pub orderly-strike : (r : Rule) (j : ℕ) (s : List ℕ) (os : Log Op) → Orderly r s os → Orderly r s (strike j os)
@@ -82,7 +76,8 @@ others-append j (e ∷ es) fs = go (mine j e) (others-append j es fs)
     go true ih = ih
     go false ih = ap {B = List Op} (λ l. e ∷ l) ih
 
-pub others-last : (j : ℕ) (es : List Op) (o : Op) (rest : List Op) → others j es ≡ rest → others j (es ++ (o ∷ [])) ≡ cond (mine j o) rest (rest ++ (o ∷ []))
+pub others-last : (j : ℕ) (es : List Op) (o : Op) (rest : List Op) → others j es ≡ rest
+    → others j (es ++ (o ∷ [])) ≡ cond (mine j o) rest (rest ++ (o ∷ []))
 others-last j es o rest ih = others-append j es (o ∷ []) ∙ rw ih (go (mine j o))
   where
     go : (b : Bool) → rest ++ cond b [] (o ∷ []) ≡ cond b rest (rest ++ (o ∷ []))
@@ -93,7 +88,8 @@ pub others-finish : (j : ℕ) (os : Log Op) → others j (unfinished os) ≡ unf
 others-finish j empty = refl
 others-finish j (os ▷ o) = go (o .done) (others-finish j os)
   where
-    go : (d : Bool) → others j (unfinished os) ≡ unfinished (finish j os) → others j (unfinished (os ▷ marked o d)) ≡ unfinished (finish j (os ▷ marked o d))
+    go : (d : Bool) → others j (unfinished os) ≡ unfinished (finish j os)
+        → others j (unfinished (os ▷ marked o d)) ≡ unfinished (finish j (os ▷ marked o d))
     go true ih = ih
     go false ih = others-last j (unfinished os) (marked o false) (unfinished (finish j os)) ih ∙ by-job (eqb j (o .job))
       where
@@ -106,7 +102,8 @@ pub others-strike : (j : ℕ) (os : Log Op) → others j (unfinished os) ≡ unf
 others-strike j empty = refl
 others-strike j (os ▷ o) = go (o .done) (others-strike j os)
   where
-    go : (d : Bool) → others j (unfinished os) ≡ unfinished (strike j os) → others j (unfinished (os ▷ marked o d)) ≡ unfinished (strike j (os ▷ marked o d))
+    go : (d : Bool) → others j (unfinished os) ≡ unfinished (strike j os)
+        → others j (unfinished (os ▷ marked o d)) ≡ unfinished (strike j (os ▷ marked o d))
     go true ih = ih
     go false ih = others-last j (unfinished os) (marked o false) (unfinished (strike j os)) ih ∙ by-job (eqb j (o .job))
       where
@@ -145,7 +142,8 @@ undo-past j u us t asc = go (inverse u)
     go clear f = recover-past j u clear us t asc (f refl)
     go skip f = refl
 
-pub recover-either-way : (j : ℕ) (t₀ : List ℕ) (us : List Op) (t : List ℕ) → Ascending t → SoundTable alone t₀ us → oldestFirst j us t ≡ recover j us t
+pub recover-either-way : (j : ℕ) (t₀ : List ℕ) (us : List Op) (t : List ℕ) → Ascending t → SoundTable alone t₀ us
+    → oldestFirst j us t ≡ recover j us t
 recover-either-way j t₀ [] t asc s = refl
 recover-either-way j t₀ (u ∷ us) t asc s = go (mine j u) (λ v a. recover-either-way j t₀ us v a (s .1))
   where

@@ -55,7 +55,8 @@ put-holds Ins = refl
 put-holds Del = refl
 put-holds Mem = refl
 
-pub clash : (p : Procedure) (f : Bool) (q : Procedure) (g : Bool) → changes (recovery q g) ≡ true → f ≡ not g → commutes (kind p f) (recovery q g) true ≡ false
+pub clash : (p : Procedure) (f : Bool) (q : Procedure) (g : Bool) → changes (recovery q g) ≡ true → f ≡ not g
+    → commutes (kind p f) (recovery q g) true ≡ false
 clash p f Ins false c e = rw e (clear-holds p)
 clash p f Ins true c e = never (sym c)
 clash p f Del true c e = rw e (put-holds p)
@@ -136,7 +137,8 @@ pin s k (os ▷ o) h q = go (not (o .done) && (changes (inverse o) && eqb k (o .
           holds-all = λ u x f.
               let here : eqb (u .key) (o .key) ≡ true = ap (λ y. eqb y (o .key)) x ∙ r in
               let one : not (o .done) && holds alone u o ≡ true =
-              ap₂ (λ a b. not a && not (commutes (kind (u .proc) (u .found)) (inverse o) b)) d here ∙ ap not (clash (u .proc) (u .found) (o .proc) (o .found) c f) in
+              ap₂ (λ a b. not a && not (commutes (kind (u .proc) (u .found)) (inverse o) b)) d here
+              ∙ ap not (clash (u .proc) (u .found) (o .proc) (o .found) c f) in
               ap (λ b. held alone u os || b) one ∙ or-true (held alone u os);
         }
     go false e ih =
@@ -147,9 +149,12 @@ pin s k (os ▷ o) h q = go (not (o .done) && (changes (inverse o) && eqb k (o .
           op = p .op;
           place = p .place;
           in-list = omega arith;
-          left = member-apply (effect (o .proc)) k (o .key) (run s os) ∙ ap (λ b. touch (effect (o .proc)) b (member k (run s os))) (differs q₁ (same? k (o .key))) ∙ touch-off (effect (o .proc)) (member k (run s os)) ∙ p .left;
+          left = member-apply (effect (o .proc)) k (o .key) (run s os)
+              ∙ ap (λ b. touch (effect (o .proc)) b (member k (run s os))) (differs q₁ (same? k (o .key)))
+              ∙ touch-off (effect (o .proc)) (member k (run s os)) ∙ p .left;
           undo-it = λ t.
-              let not-here : not (o .done) && eqb (p .place) (size os) ≡ false = ap (λ b. not (o .done) && b) (ne-eqb (p .place) (size os) (omega arith)) ∙ and-false (not (o .done)) in
+              let not-here : not (o .done) && eqb (p .place) (size os) ≡ false = ap (λ b. not (o .done) && b) (ne-eqb (p .place) (size os) (omega arith))
+              ∙ and-false (not (o .done)) in
               ap (λ b. member k (back (inGroups alone (eqb (p .place))) os (cond b (undo o t) t))) not-here ∙ p .undo-it t;
           holds-all = λ u x f. ap (λ b. b || (not (o .done) && holds alone u o)) (p .holds-all u x f);
         }
@@ -206,7 +211,8 @@ names-first : (r : Rule) (o : Op) (us : List Op) (job : ℕ) → holder r o us �
 names-first r o [] job e = never (sym (ap foundOne e))
 names-first r o (u ∷ us) job e = go (holds r o u) refl e (names-first r o us job)
   where
-    go : (b : Bool) → holds r o u ≡ b → cond b (some (u .job)) (holder r o us) ≡ some job → (holder r o us ≡ some job → FirstHolder r o us job) → FirstHolder r o (u ∷ us) job
+    go : (b : Bool) → holds r o u ≡ b → cond b (some (u .job)) (holder r o us) ≡ some job → (holder r o us ≡ some job → FirstHolder r o us job)
+        → FirstHolder r o (u ∷ us) job
     go true q e ih = record { earlier = []; entry = u; later = us; placed-so = refl; none-earlier = tt; holds-it = q; of-job = cc }
     go false q e ih =
         let i = ih e in
@@ -220,12 +226,14 @@ names-first r o (u ∷ us) job e = go (holds r o u) refl e (names-first r o us j
           of-job = i .of-job;
         }
 
-first-named : (r : Rule) (o : Op) (xs : List Op) (u : Op) (ys : List Op) → All (λ v. holds r o v ≡ false) xs → holds r o u ≡ true → holder r o (xs ++ (u ∷ ys)) ≡ some (u .job)
+first-named : (r : Rule) (o : Op) (xs : List Op) (u : Op) (ys : List Op) → All (λ v. holds r o v ≡ false) xs → holds r o u ≡ true
+    → holder r o (xs ++ (u ∷ ys)) ≡ some (u .job)
 first-named r o [] u ys n e = rw e
 first-named r o (x ∷ xs) u ys n e = rw (n .0) (first-named r o xs u ys (n .1) e)
 
 pub holder-first : (r : Rule) (o : Op) (us : List Op) (job : ℕ) → (holder r o us ≡ some job) ↔ FirstHolder r o us job
 holder-first r o us job = (
   names-first r o us job,
-  λ f. ap (holder r o) (f .placed-so) ∙ first-named r o (f .earlier) (f .entry) (f .later) (f .none-earlier) (f .holds-it) ∙ ap {B = Option ℕ} some (f .of-job),
+  λ f. ap (holder r o) (f .placed-so) ∙ first-named r o (f .earlier) (f .entry) (f .later) (f .none-earlier) (f .holds-it)
+      ∙ ap {B = Option ℕ} some (f .of-job),
 )

@@ -101,7 +101,8 @@ room-abort j t (u ∷ us) asc = go (mine j u) (room-abort j t us asc) (length-un
     go false ih l = omega arith
 
 -- A choice of unfinished operations to undo leaves no more tiles than are spoken for
-back-room : (q : Pick) (os : Log Op) (t : List ℕ) → Ascending t → length (back (λ l o. not (o .done) && q l o) os t) ≤ length t + reserved (unfinished os)
+back-room : (q : Pick) (os : Log Op) (t : List ℕ) → Ascending t
+    → length (back (λ l o. not (o .done) && q l o) os t) ≤ length t + reserved (unfinished os)
 back-room q empty t asc = omega arith
 back-room q (os ▷ o) t asc = go (o .done) (q os o) (back-room q os) (reserved-last (unfinished os) o) (length-undo o t asc)
   where
@@ -113,7 +114,8 @@ back-room q (os ▷ o) t asc = go (o .done) (q os o) (back-room q os) (reserved-
     go false true ih r l = let i = ih (undo o t) (ascending-apply (inverse o) (o .key) t asc) in omega arith
     go false false ih r l = let i = ih t asc in omega arith
 
-enough : (s : List ℕ) (os cs : Log Op) → Ascending s → Orderly alone s os → Choice os cs → length (run s cs) ≤ length (run s os) + reserved (unfinished os)
+enough : (s : List ℕ) (os cs : Log Op) → Ascending s → Orderly alone s os → Choice os cs
+    → length (run s cs) ≤ length (run s os) + reserved (unfinished os)
 enough s os cs asc h c =
     let d = dropped c in
     subst (λ l. length l ≤ length (run s os) + reserved (unfinished os))
@@ -124,7 +126,8 @@ enough s os cs asc h c =
 abbrev deletes : Pick
 deletes l o = not (o .done) && eqb (kind (o .proc) (o .found)) 3
 
-needed : (s : List ℕ) (os : Log Op) → Ascending s → Orderly alone s os → length (run s (without deletes os)) ≡ length (run s os) + reserved (unfinished os)
+needed : (s : List ℕ) (os : Log Op) → Ascending s → Orderly alone s os
+    → length (run s (without deletes os)) ≡ length (run s os) + reserved (unfinished os)
 needed s empty asc h = omega arith
 needed s (os ▷ o) asc h = go (o .done) refl three refl (needed s os asc (h .0)) (reserved-last (unfinished os) o)
   where

@@ -59,13 +59,15 @@ free-tail r o u us e = go (holds r o u) e
     go true x = never (ap foundOne x)
     go false x = x
 
-pub may-follow : (r : Rule) (t : List ℕ) (o u : Op) (us : List Op) → o .found ≡ member (o .key) t → holds r o u ≡ false → changes (inverse u) ≡ true → SoundEntry r t u us → MayFollow r u o
+pub may-follow : (r : Rule) (t : List ℕ) (o u : Op) (us : List Op) → o .found ≡ member (o .key) t → holds r o u ≡ false → changes (inverse u) ≡ true
+    → SoundEntry r t u us → MayFollow r u o
 may-follow alone t o u us f h c s = λ p.
     let m : member (u .key) t ≡ not (u .found) = sym (seen-alone u us t (s .own-tile c)) ∙ s .as-left c in
     never (sym (rw (p, eqb-same (o .key), clash (o .proc) (o .found) (u .proc) (u .found) c (f ∙ ap (λ k. member k t) (sym p) ∙ m))) ∙ h)
 
 -- One entry more
-pub sound-operation : (r : Rule) (t : List ℕ) (us : List Op) (o : Op) → SoundTable r t us → o .done ≡ false → o .found ≡ member (o .key) t → holder r o us ≡ none
+pub sound-operation : (r : Rule) (t : List ℕ) (us : List Op) (o : Op) → SoundTable r t us → o .done ≡ false → o .found ≡ member (o .key) t
+    → holder r o us ≡ none
     → SoundTable r (after o t) (us ++ (o ∷ []))
 sound-operation r t [] o s d f h = (
   record {
@@ -92,7 +94,8 @@ free-others r j u (v ∷ us) f = let ih = free-others r j u us (f .1) in by-cond
 pub off-tile : (r : Rule) (j : ℕ) (u v : Op) → MayFollow r u v → u .done ≡ false → mine j u ≡ false → mine j v ≡ true → u .key ≢ v .key
 off-tile alone j u v m d a b = m
 
-seen-commit : (r : Rule) (j : ℕ) (u : Op) (us : List Op) (t : List ℕ) → FreeAfter r u us → u .done ≡ false → mine j u ≡ false → seen (u .key) (others j us) t ≡ seen (u .key) us t
+seen-commit : (r : Rule) (j : ℕ) (u : Op) (us : List Op) (t : List ℕ) → FreeAfter r u us → u .done ≡ false → mine j u ≡ false
+    → seen (u .key) (others j us) t ≡ seen (u .key) us t
 seen-commit r j u [] t f d a = refl
 seen-commit r j u (v ∷ us) t f d a =
     let ih = seen-commit r j u us t (f .1) d a in
@@ -132,7 +135,8 @@ sound-else r a k t (u ∷ us) e s = (
 )
 
 -- the entries that job j leaves are not on a tile that it changed
-elsewhere : (r : Rule) (j : ℕ) (t : List ℕ) (w : Op) (us : List Op) → SoundTable r t us → FreeAfter r w us → mine j w ≡ true → Elsewhere (w .key) (others j us)
+elsewhere : (r : Rule) (j : ℕ) (t : List ℕ) (w : Op) (us : List Op) → SoundTable r t us → FreeAfter r w us → mine j w ≡ true
+    → Elsewhere (w .key) (others j us)
 unfolding Elsewhere
 elsewhere r j t w [] s f e = tt
 elsewhere r j t w (v ∷ us) s f e =
@@ -183,7 +187,8 @@ Unheld r m (operation j p k) = heldBy r m j p k ≡ none
 Unheld r m (commit j) = Unit {0}
 Unheld r m (abort j) = Unit {0}
 
-pub step-sound : (r : Rule) (m : Book) (e : Event) → SoundTable r (m .tiles) (m .table) → Unheld r m e → SoundTable r (step m e .tiles) (step m e .table)
+pub step-sound : (r : Rule) (m : Book) (e : Event) → SoundTable r (m .tiles) (m .table) → Unheld r m e
+    → SoundTable r (step m e .tiles) (step m e .table)
 step-sound r m (openJob j) s u = s
 step-sound r m (operation j p k) s u = sound-operation r (m .tiles) (m .table) (begun j p k (m .tiles)) s refl refl u
 step-sound r m (commit j) s u = sound-commit r j (m .tiles) (m .table) s

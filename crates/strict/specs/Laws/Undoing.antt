@@ -144,21 +144,26 @@ orderly-answers r s (os ▷ o) h = (orderly-answers r s os (h .0), ap (answer (o
 differs : (i k : ℕ) → eqb k i ≡ false → i ≢ k
 differs i k e p = never (sym (eqb-same i) ∙ ap (λ x. eqb x i) p ∙ e)
 
-pub undo-comm : (r : Step) (i : ℕ) (a : Step) (k : ℕ) (t : List ℕ) → Ascending t → changes r && eqb k i ≡ false → apply r i (apply a k t) ≡ apply a k (apply r i t)
+pub undo-comm : (r : Step) (i : ℕ) (a : Step) (k : ℕ) (t : List ℕ) → Ascending t → changes r && eqb k i ≡ false
+    → apply r i (apply a k t) ≡ apply a k (apply r i t)
 undo-comm put i a k t asc q = apply-comm put a i k t asc (differs i k q)
 undo-comm clear i a k t asc q = apply-comm clear a i k t asc (differs i k q)
 undo-comm skip i a k t asc q = refl
 
-back-comm : (q : Pick) (os : Log Op) (a : Step) (k : ℕ) (t : List ℕ) → Ascending t → changedBy q k os ≡ false → back q os (apply a k t) ≡ apply a k (back q os t)
+back-comm : (q : Pick) (os : Log Op) (a : Step) (k : ℕ) (t : List ℕ) → Ascending t → changedBy q k os ≡ false
+    → back q os (apply a k t) ≡ apply a k (back q os t)
 back-comm q empty a k t asc h = refl
 back-comm q (os ▷ o) a k t asc h = go (λ t asc. back-comm q os a k t asc (or-left (changedBy q k os) _ h)) (q os o) (or-right (changedBy q k os) _ h)
   where
-    go : ((t : List ℕ) → Ascending t → back q os (apply a k t) ≡ apply a k (back q os t)) → (b : Bool) → b && (changes (inverse o) && eqb k (o .key)) ≡ false → back q os (cond b (undo o (apply a k t)) (apply a k t)) ≡ apply a k (back q os (cond b (undo o t) t))
+    go : ((t : List ℕ) → Ascending t → back q os (apply a k t) ≡ apply a k (back q os t)) → (b : Bool)
+        → b && (changes (inverse o) && eqb k (o .key)) ≡ false
+        → back q os (cond b (undo o (apply a k t)) (apply a k t)) ≡ apply a k (back q os (cond b (undo o t) t))
     go ih true e = ap (back q os) (undo-comm (inverse o) (o .key) a k t asc e) ∙ ih (undo o t) (ascending-apply (inverse o) (o .key) t asc)
     go ih false e = ih t asc
 
 -- those that q picks are undone at the end of a list without those that p picks
-pub orderly-undone : (r : Rule) (s : List ℕ) (p q : Pick) → Ascending s → Apart r p → Apart r q → ((os : Log Op) (o : Op) → p os o ≡ true → q os o ≡ false)
+pub orderly-undone : (r : Rule) (s : List ℕ) (p q : Pick) → Ascending s → Apart r p → Apart r q
+    → ((os : Log Op) (o : Op) → p os o ≡ true → q os o ≡ false)
     → (os : Log Op) → Orderly r s os → back q os (run s (without p os)) ≡ run s (without (λ l o. q l o || p l o) os)
 orderly-undone r s p q asc wp wq differs empty h = refl
 orderly-undone r s p q asc wp wq differs (os ▷ o) h =
@@ -174,7 +179,8 @@ orderly-undone r s p q asc wp wq differs (os ▷ o) h =
         → back q os (cond b (undo o (run s (cond a ps (ps ▷ o)))) (run s (cond a ps (ps ▷ o)))) ≡ run s (cond (b || a) qs (qs ▷ o))
     go true e true f x ih = never (x refl)
     go true e false f x ih = ih
-    go false e true f x ih = ap (back q os) (undo-after o (run s ps) (run-ascending s ps asc) (h .1 ∙ sym (chosen r s p wp os (h .0) .agree (o .key) (wp os o (h .2) e)))) ∙ ih
+    go false e true f x ih = ap (back q os) (undo-after o (run s ps) (run-ascending s ps asc) (h .1 ∙ sym (chosen r s p wp os (h .0) .agree (o .key) (wp os o (h .2) e))))
+        ∙ ih
     go false e false f x ih =
         back-comm q os (effect (o .proc)) (o .key) (run s ps) (run-ascending s ps asc) (wq os o (h .2) f) ∙ ap (after o) ih
 
@@ -183,7 +189,8 @@ without-none empty = refl
 without-none (os ▷ o) = ap (λ l. l ▷ o) (without-none os)
 
 -- undoing at the end of the whole list
-pub orderly-back : (r : Rule) (s : List ℕ) (q : Pick) → Ascending s → Apart r q → (os : Log Op) → Orderly r s os → back q os (run s os) ≡ run s (without q os)
+pub orderly-back : (r : Rule) (s : List ℕ) (q : Pick) → Ascending s → Apart r q → (os : Log Op) → Orderly r s os
+    → back q os (run s os) ≡ run s (without q os)
 orderly-back r s q asc w os h =
     ap (λ l. back q os (run s l)) (sym (without-none os))
     ∙ orderly-undone r s (λ l o. false) q asc (λ l o x y. none l (o .key)) w (λ l o e. never (sym e)) os h
