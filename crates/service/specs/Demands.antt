@@ -7,7 +7,7 @@ use mathlib.Core.Path.{_∙_, _≡_, ap, refl, subst, sym}
 use Prim.Native.Nat.{_*_, _+_, _<_, _≤_, ℕ}
 use native.Mathlib.Omega.{arith}
 use lib.Dec.{eqb}
-use lib.ListN.{drop, length, replicate, take}
+use lib.ListN.{drop, length, take}
 use lib.Seq.{length-sets}
 use borrow.Author.Tests.{eqb-false, eqb-true, le-ltb, ne-eqb}
 use Rattle.lists.specs.Lists.{All}
@@ -18,8 +18,8 @@ use Rattle.strict.specs.Operations.{Op, begun}
 use Rattle.strict.specs.Strict.{Log, Strict, _▷_, alone, run}
 use Rattle.strict.specs.declared.Procedure.{Procedure}
 use Rattle.service.specs.Admission.{State, answerOn, answerTo, isOpen, openMarks}
-use Rattle.service.specs.Calls.{abortCall, carried, commitCall, fresh, openCall, operationCall, padded, settled, startCall, startWorld}
-use Rattle.service.specs.Claims.{AsRecorded, Because, Halts, Keeps, Reached, Reads, Stops, lasting, marksFrom, records, runAlone, tilesAfter}
+use Rattle.service.specs.Calls.{abortCall, carried, commitCall, fresh, openCall, operationCall, settled, startCall, startWorld}
+use Rattle.service.specs.Claims.{Because, Halts, Keeps, Reached, Reads, RebuildsAlone, Stops, records, tilesAfter}
 use Rattle.service.specs.Entry.{opIn}
 use Rattle.service.specs.History.{Call, From, call, event, history, jobOf, operating, refusalsOf}
 use Rattle.service.specs.Journal.{encode, readAt, recordOf}
@@ -263,16 +263,7 @@ module _ {tiles : List ℕ} {count : ℕ} {operations journal : List ℕ} {cs : 
   -- the journal cut after n bytes, replayed onto the starting tiles: rs are the records that are whole in it, and `end` is the place after them
   pub replay-exact : (n : ℕ) (operations′ : List ℕ) → length operations′ ≡ length operations
       → (rs : List Record) (end : ℕ) → Reads (take n (usedJournal w)) 0 rs end → Stops (readAt (take n (usedJournal w)) end)
-      → (replayCall (take n (usedJournal w)) tiles count operations′
-      ≡ record {
-        number = 0;
-        offset = end;
-        undone = openMarks (marksFrom (replicate 64 false) rs);
-        count = length (runAlone start-tiles (lasting rs));
-        tiles = padded (length tiles) (runAlone start-tiles (lasting rs));
-        operations = replicate (length operations′) 0;
-      })
-      × AsRecorded start-tiles (lasting rs)
+      → RebuildsAlone (take n (usedJournal w)) tiles count operations′ rs end
   replay-exact n operations′ same rs end reads stops = rebuilds there n operations′ same rs end reads stops
 
   -- and every cut has such records

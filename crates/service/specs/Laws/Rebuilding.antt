@@ -10,7 +10,7 @@ use Rattle.strict.specs.Histories.{Event, committed, kept}
 use Rattle.strict.specs.Strict.{Log, run}
 use Rattle.service.specs.Admission.{openMarks}
 use Rattle.service.specs.Calls.{padded}
-use Rattle.service.specs.Claims.{AsRecorded, Reads, Stops, lasting, marksFrom, records, runAlone}
+use Rattle.service.specs.Claims.{AsRecorded, Reads, RebuildsAlone, Stops, lasting, marksFrom, records, runAlone}
 use Rattle.service.specs.Journal.{readAt}
 use Rattle.service.specs.Laws.Extents.{extent, upto}
 use Rattle.service.specs.Laws.Lasting.{alone-committed, marks-records, reads-once, recorded-committed}
@@ -55,16 +55,7 @@ module _ {tiles : List ℕ} {count : ℕ} {operations journal : List ℕ} {h₀ 
 
   pub rebuilds : (n : ℕ) (operations′ : List ℕ) → length operations′ ≡ length operations
       → (rs : List Record) (end : ℕ) → Reads (take n (usedJournal w)) 0 rs end → Stops (readAt (take n (usedJournal w)) end)
-      → (replayCall (take n (usedJournal w)) tiles count operations′
-      ≡ record {
-        number = 0;
-        offset = end;
-        undone = openMarks (marksFrom (replicate 64 false) rs);
-        count = length (runAlone start-tiles (lasting rs));
-        tiles = padded (length tiles) (runAlone start-tiles (lasting rs));
-        operations = replicate (length operations′) 0;
-      })
-      × AsRecorded start-tiles (lasting rs)
+      → RebuildsAlone (take n (usedJournal w)) tiles count operations′ rs end
   rebuilds n operations′ same rs end reads stops =
       let s = start-tiles in
       let h = upto n h₀ in
