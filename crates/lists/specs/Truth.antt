@@ -1,9 +1,9 @@
 -- Truth values, and numbers that are the same or not
 use mathlib.Core.Path.{_≡_, refl, sym, ap, ap₂, _∙_, subst}
-use mathlib.Core.Bool.{Bool, true, false, cond, _&&_, _||_, Bool·beq}
+use mathlib.Core.Bool.{Bool, true, false, cond, not, _&&_, _||_, Bool·beq}
 use Prim.Native.Nat.{ℕ}
 use lib.Dec.{T, eqb}
-use borrow.Author.Tests.{eqb-true, eqb-false, eq-eqb}
+use borrow.Author.Tests.{not-true, not-false, eqb-true, eqb-false, eq-eqb}
 
 pub never : {A : Type 0} → true ≡ false → A
 never e = absurd (subst T e tt)
@@ -16,6 +16,13 @@ by-cond P false f g = g refl
 abbrev pub oneIf : Bool → ℕ
 oneIf true = 1
 oneIf false = 0
+
+-- what a test that was turned round says
+pub test-fails : {answer is : Bool} → answer ≡ is → not answer ≡ true → is ≡ false
+test-fails e h = sym e ∙ not-true _ h
+
+pub test-passes : {answer is : Bool} → answer ≡ is → not answer ≡ false → is ≡ true
+test-passes e h = sym e ∙ not-false _ h
 
 -- && and ||
 pub both : (a b : Bool) → a && b ≡ true → (a ≡ true) × (b ≡ true)

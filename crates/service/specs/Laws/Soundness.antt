@@ -23,7 +23,7 @@ is-above : (n : ℕ) (xs : List ℕ) → Above n xs → aboveB n xs ≡ true
 is-above n [] h = refl
 is-above n (x ∷ xs) h = and-both (lt-ltb n x (h .0)) (is-above x xs (h .1))
 
-ascending-is : (xs : List ℕ) → ascendingB xs ≡ true → Ascending xs
+pub ascending-is : (xs : List ℕ) → ascendingB xs ≡ true → Ascending xs
 ascending-is [] e = tt
 ascending-is (x ∷ xs) e = above-is x xs e
 
@@ -31,7 +31,7 @@ is-ascending : (xs : List ℕ) → Ascending xs → ascendingB xs ≡ true
 is-ascending [] h = refl
 is-ascending (x ∷ xs) h = is-above x xs h
 
-zeros-is : (xs : List ℕ) → zeros xs ≡ true → All (λ x. x ≡ 0) xs
+pub zeros-is : (xs : List ℕ) → zeros xs ≡ true → All (λ x. x ≡ 0) xs
 zeros-is xs e = all-is (λ x. eqb x 0) (λ x. x ≡ 0) (λ x h. eqb-true x 0 h) xs e
 
 is-zeros : (xs : List ℕ) → All (λ x. x ≡ 0) xs → zeros xs ≡ true

@@ -1,0 +1,32 @@
+-- What a decision on an operation says of its refusals
+use mathlib.Core.Bool.{false}
+use mathlib.Core.List.{List, [], _++_, _∷_}
+use mathlib.Core.Path.{_≡_}
+use Prim.Native.Nat.{_*_, _+_, ℕ}
+use lib.Dec.{eqb, ltb}
+use lib.ListN.{length}
+use Rattle.service.specs.Admission.{admission, openMarks}
+use Rattle.service.specs.Calls.{operationRefusals}
+use Rattle.service.specs.Tile.{addressCall}
+use Rattle.service.specs.Told.{Refusal, Told, decided, refuse, refused, told}
+use Rattle.service.specs.World.{World, freeBytes, state}
+use Rattle.service.specs.declared.Address.{Address}
+use Rattle.strict.specs.declared.Procedure.{Procedure}
+use Rattle.decisions.specs.declared.Decision.{Decision}
+use Rattle.decisions.specs.declared.Decision.the-variants.{Perform, Refuse}
+
+-- a refusal is the reply that the refusals decide; where none applies, the operation is performed on that key
+abbrev pub Settles : List Refusal → ℕ → Decision → Type 0
+Settles rs key (Refuse reply) = ((t : Told) → told reply ≡ decided rs t) × (eqb (told reply .number) 0 ≡ false)
+Settles rs key (Perform k) = (refused rs ≡ false) × (k ≡ key)
+
+-- of an operation with a key: 6, 7, 8 and 9
+abbrev pub lastRefusals : World → ℕ → Procedure → ℕ → List Refusal
+lastRefusals w job p k =
+    admission (length (w .tiles)) (length (w .operations)) (state w) job p k ++ (refuse 9 (ltb (freeBytes w) (10 + 4 * openMarks (w .session .marks))) ∷ [])
+
+abbrev pub Judges : World → Procedure → ℕ → Decision → Type 0
+Judges w p k d = (job : ℕ) → Settles (lastRefusals w job p k) k d
+
+abbrev pub Decides : World → ℕ → Procedure → Address → Decision → Type 0
+Decides w job p a d = Settles (operationRefusals w job p a) (addressCall a .key) d

@@ -1,0 +1,161 @@
+-- What each test of a call decides
+use mathlib.Core.Bool.{Bool, _||_, cond, false, true}
+use mathlib.Core.List.{List, [], _++_, _∷_}
+use mathlib.Core.Option.{some}
+use mathlib.Core.Path.{_∙_, _≡_, ap, refl, subst, sym}
+use Prim.Native.Nat.{_*_, _+_, _<_, _≤_, ℕ}
+use lib.Dec.{eqb, ltb}
+use lib.ListN.{length}
+use borrow.Author.Tests.{eqb-true, le-ltb, lt-ltb, not-false}
+use Rattle.engine.specs.Laws.{Means, verdict-means}
+use Rattle.engine.specs.Verdicts.{verdictOf}
+use Rattle.engine.specs.declared.Verdict.{Verdict}
+use Rattle.engine.specs.declared.Verdict.the-variants.{Admitted, Held, NoOperationRoom, NoTileRoom}
+use Rattle.lists.specs.Truth.{never}
+use Rattle.service.specs.Admission.{isOpen, openMarks}
+use Rattle.service.specs.Calls.{endRefusals, openRefusals, operationRefusals}
+use Rattle.service.specs.History.{committing}
+use Rattle.service.specs.Laws.Accepting.{decided-done, decided-none, numbered}
+use Rattle.service.specs.Laws.Soundness.{sound-is}
+use Rattle.service.specs.Laws.Standing.{unrefused}
+use Rattle.service.specs.Sound.{Sound, soundB}
+use Rattle.service.specs.Tile.{Placed, addressCall, placed}
+use Rattle.service.specs.Told.{Refusal, Told, bare, decided, done, refuse, refused, told}
+use Rattle.service.specs.World.{World, freeBytes, state}
+use Rattle.service.specs.declared.Address.{Address}
+use Rattle.service.specs.declared.Located.the-variants.{Key, Refused}
+use Rattle.service.specs.declared.Reply.{Reply}
+use Rattle.strict.specs.Book.{heldBy}
+use Rattle.strict.specs.Commutativity.{holder, holds}
+use Rattle.strict.specs.Operations.{Op, begun}
+use Rattle.strict.specs.Strict.{alone}
+use Rattle.strict.specs.declared.Procedure.{Procedure}
+use Rattle.decisions.specs.Decides.{Decides, Judges, lastRefusals}
+use Rattle.decisions.specs.declared.Decision.{Decision}
+use Rattle.decisions.specs.declared.Decision.the-variants.{Perform, Refuse}
+use Rattle.service.specs.declared.Reply.the-variants as reply
+
+-- refusals that stand one after another
+pub decided-append : (rs qs : List Refusal) (t : Told) → decided (rs ++ qs) t ≡ decided rs (decided qs t)
+decided-append [] qs t = refl
+decided-append (r ∷ rs) qs t = ap (cond (r .applies) (r .says)) (decided-append rs qs t)
+
+pub refused-append : (rs qs : List Refusal) → refused rs ≡ false → refused qs ≡ false → refused (rs ++ qs) ≡ false
+refused-append [] qs h e = e
+refused-append (r ∷ rs) qs h e = go (r .applies) h (λ x. refused-append rs qs x e)
+  where
+    go : (b : Bool) → b || refused rs ≡ false → (refused rs ≡ false → refused (rs ++ qs) ≡ false) → b || refused (rs ++ qs) ≡ false
+    go true x ih = x
+    go false x ih = ih x
+
+module _ (w : World) (job : ℕ) (t : Told) where
+  -- an open
+  pub open-unsound : soundB w ≡ false → bare 1 ≡ decided (openRefusals w job) t
+  open-unsound h = rw h
+
+  pub end-unsound : soundB w ≡ false → bare 1 ≡ decided (endRefusals w job) t
+  end-unsound h = rw h
+
+  module _ (sound : soundB w ≡ true) where
+    pub open-no-job : 63 < job → bare 2 ≡ decided (openRefusals w job) t
+    open-no-job h = rw (sound, lt-ltb 63 job h)
+
+    pub end-no-job : 63 < job → bare 2 ≡ decided (endRefusals w job) t
+    end-no-job h = rw (sound, lt-ltb 63 job h)
+
+    module _ (small : job ≤ 63) where
+      pub open-already : isOpen (state w) job ≡ true → bare 4 ≡ decided (openRefusals w job) t
+      open-already h = rw (sound, le-ltb 63 job small, h)
+
+      pub end-closed : isOpen (state w) job ≡ false → bare 3 ≡ decided (endRefusals w job) t
+      end-closed h = rw (sound, le-ltb 63 job small, h)
+
+      pub end-done : isOpen (state w) job ≡ true → t ≡ decided (endRefusals w job) t
+      end-done h = rw (sound, le-ltb 63 job small, h)
+
+      module _ (closed : isOpen (state w) job ≡ false) where
+        pub open-no-room : freeBytes w < 4 + 4 * (openMarks (w .session .marks) + 1) → bare 9 ≡ decided (openRefusals w job) t
+        open-no-room h = rw (sound, le-ltb 63 job small, closed, lt-ltb (freeBytes w) (4 + 4 * (openMarks (w .session .marks) + 1)) h)
+
+        pub open-done : 4 + 4 * (openMarks (w .session .marks) + 1) ≤ freeBytes w → t ≡ decided (openRefusals w job) t
+        open-done h = rw (sound, le-ltb 63 job small, closed, le-ltb (freeBytes w) (4 + 4 * (openMarks (w .session .marks) + 1)) h)
+
+-- AN OPERATION WITH A KEY
+-- the holder does not depend on who asks
+any-job : (job p′ : ℕ) (p : Procedure) (k : ℕ) (t : List ℕ) (us : List Op) → holder alone (begun job p k t) us ≡ holder alone (begun p′ p k t) us
+any-job job p′ p k t [] = refl
+any-job job p′ p k t (u ∷ us) = ap (cond (holds alone (begun job p k t) u) (some (u .job))) (any-job job p′ p k t us)
+
+module _ (w : World) (p : Procedure) (k : ℕ) where
+  abbrev pub Meaning : Verdict → Type 0
+  Meaning v = Means (length (w .tiles)) (length (w .operations)) (state w .book) p k v
+
+  abbrev noBytes : Bool
+  noBytes = ltb (freeBytes w) (10 + 4 * openMarks (w .session .marks))
+
+  same-holder : (job : ℕ) → heldBy alone (state w .book) job p k ≡ heldBy alone (state w .book) 0 p k
+  same-holder job = any-job job 0 p k (state w .book .tiles) (state w .book .table)
+
+  -- what the engine's verdict says of this world
+  pub judged : (v u : Verdict) → v ≡ verdictOf (length (w .tiles)) (length (w .operations)) (state w .book) p k → v ≡ u → Meaning u
+  judged v u is seen = subst Meaning (sym is ∙ seen) (verdict-means (length (w .tiles)) (length (w .operations)) (state w .book) p k)
+
+  pub judges-held : (j : ℕ) → Meaning (Held j) → Judges w p k (Refuse (reply.Held j))
+  judges-held j h job = (λ t. rw (same-holder job, h), refl)
+
+  pub judges-no-place : Meaning NoTileRoom → Judges w p k (Refuse reply.NoTileRoom)
+  judges-no-place h job = (λ t. rw (same-holder job, h .0, h .1), refl)
+
+  pub judges-no-slot : Meaning NoOperationRoom → Judges w p k (Refuse reply.NoOperationRoom)
+  judges-no-slot h job = (λ t. rw (same-holder job, h .0, h .1, h .2), refl)
+
+  pub judges-no-bytes : Meaning Admitted → noBytes ≡ true → Judges w p k (Refuse reply.NoJournalRoom)
+  judges-no-bytes h n job = (λ t. rw (same-holder job, h .0, h .1, h .2, n), refl)
+
+  pub judges-perform : Meaning Admitted → noBytes ≡ false → Judges w p k (Perform k)
+  judges-perform h n job = (rw (same-holder job, h .0, h .1, h .2, n), refl)
+
+-- what a list with a number for each refusal decides, it decides whatever follows it
+gate-refuses : (rs : List Refusal) (t u : Told) → eqb (t .number) 0 ≡ true → eqb (decided rs t .number) 0 ≡ false → decided rs t ≡ decided rs u
+gate-refuses [] t u z n = never (sym z ∙ n)
+gate-refuses (r ∷ rs) t u z n = go (r .applies) n (gate-refuses rs t u z)
+  where
+    go : (b : Bool) → eqb (cond b (r .says) (decided rs t) .number) 0 ≡ false → (eqb (decided rs t .number) 0 ≡ false → decided rs t ≡ decided rs u)
+        → cond b (r .says) (decided rs t) ≡ cond b (r .says) (decided rs u)
+    go true n ih = refl
+    go false n ih = ih n
+
+-- AN OPERATION: its first three refusals are those of an end, then 5, then the last
+module _ (w : World) (job : ℕ) (p : Procedure) (a : Address) where
+  abbrev rest : List Refusal
+  rest = refuse 5 (eqb (addressCall a .number) 5) ∷ lastRefusals w job p (addressCall a .key)
+
+  -- where the gate refuses
+  pub decides-gate : (r : Reply) → told r ≡ decided (endRefusals w job) (done false) → eqb (told r .number) 0 ≡ false → Decides w job p a (Refuse r)
+  decides-gate r h n =
+      (λ t. h ∙ gate-refuses (endRefusals w job) (done false) (decided rest t) refl (ap (λ (x : Told). eqb (x .number) 0) (sym h) ∙ n) ∙ sym (decided-append (endRefusals w job) rest t), n)
+
+  -- where it does not
+  gate-passed : (r : Reply) → told r ≡ decided (endRefusals w job) (done false) → eqb (told r .number) 0 ≡ true → refused (endRefusals w job) ≡ false
+  gate-passed r h z =
+      decided-done (endRefusals w job) (done false) (numbered w (committing job)) (ap (λ (x : Told). x .number) (sym h) ∙ eqb-true (told r .number) 0 z)
+
+  module _ (gate : Reply) (is : told gate ≡ decided (endRefusals w job) (done false)) (zero : eqb (told gate .number) 0 ≡ true) where
+    pub passed-sound : Sound w
+    passed-sound = sound-is w (not-false (soundB w) (unrefused (endRefusals w job) (gate-passed gate is zero) .0))
+
+    abbrev following : Placed → List Refusal
+    following x = refuse 5 (eqb (x .number) 5) ∷ lastRefusals w job p (x .key)
+
+    after-gate : (x : Placed) → x ≡ addressCall a → (t : Told) → decided (following x) t ≡ decided (operationRefusals w job p a) t
+    after-gate x same t =
+        ap (λ (y : Placed). decided (following y) t) same
+        ∙ sym (decided-append (endRefusals w job) rest t ∙ decided-none (endRefusals w job) (decided rest t) (gate-passed gate is zero))
+
+    pub decides-no-key : placed Refused ≡ addressCall a → Decides w job p a (Refuse reply.OutOfRange)
+    decides-no-key h = (after-gate (placed Refused) h, refl)
+
+    pub decides-judged : (k : ℕ) (d : Decision) → placed (Key k) ≡ addressCall a → Judges w p k d → Decides w job p a d
+    decides-judged k (Refuse r) h j = (λ t. j job .0 t ∙ after-gate (placed (Key k)) h t, j job .1)
+    decides-judged k (Perform n) h j =
+        (refused-append (endRefusals w job) rest (gate-passed gate is zero) (ap (λ (x : Placed). refused (following x)) (sym h) ∙ j job .0), j job .1 ∙ ap (λ (x : Placed). x .key) h)

@@ -1,0 +1,145 @@
+// What each call replies, decided before anything is written.
+ghost use mathlib.Core.Bool.{false};
+ghost use mathlib.Core.Path.{_≡_};
+ghost use lib.Dec.{eqb};
+ghost use Rattle.service.specs.Calls.{endRefusals, openRefusals};
+ghost use Rattle.service.specs.Sound.{Sound};
+ghost use Rattle.service.specs.Told.{decided, done, told};
+ghost use Rattle.service.specs.World.{world};
+ghost use Rattle.decisions.specs.Decides.{Decides, Judges};
+use engine::Verdict;
+use service::Address;
+use service::Located;
+use service::Reply;
+use service::Session;
+use strict::Procedure;
+
+// What an operation comes to: a refusal, or the key on which it is to be performed.
+pub enum Decision {
+    Refuse(Reply),
+    Perform(u32),
+}
+
+// A reply's number.
+pub fn number(reply: Reply) -> u8
+    ensures { λ r. ⌜ r ≡ told reply .number ⌝ }
+{
+    match reply {
+        Reply::Done(_) => 0,
+        Reply::NotSound => 1,
+        Reply::NoSuchJob => 2,
+        Reply::NotOpen => 3,
+        Reply::AlreadyOpen => 4,
+        Reply::OutOfRange => 5,
+        Reply::Held(_) => 6,
+        Reply::NoTileRoom => 7,
+        Reply::NoOperationRoom => 8,
+        Reply::NoJournalRoom => 9,
+    }
+}
+
+// Whether a reply says that the call is carried out.
+pub fn accepted(reply: Reply) -> bool
+    ensures { λ r. ⌜ r ≡ eqb (told reply .number) 0 ⌝ }
+{
+    number(reply) == 0
+}
+
+// What an open replies.
+pub fn open_reply(
+    session: Session,
+    tiles: &[u32],
+    operations: &[u64],
+    journal: &[u8],
+    job: u8,
+) -> Reply
+    ensures { λ r. ⌜ told r ≡ decided (openRefusals (world session (now (tiles .entry)) (now (operations .entry)) (now (journal .entry))) job) (done false) ⌝ }
+{
+    if !soundness::sound(session, tiles, operations, journal) {
+        return Reply::NotSound;
+    }
+    if 63 < job {
+        return Reply::NoSuchJob;
+    }
+    let place = job as usize;
+    if session.marks[place] {
+        return Reply::AlreadyOpen;
+    }
+    let used = session.journal;
+    let open = soundness::open_jobs(session);
+    if journal.len() - used < 4 + 4 * (open + 1) {
+        return Reply::NoJournalRoom;
+    }
+    Reply::Done(false)
+}
+
+// What a commit or an abort replies.
+pub fn end_reply(
+    session: Session,
+    tiles: &[u32],
+    operations: &[u64],
+    journal: &[u8],
+    job: u8,
+) -> Reply
+    ensures { λ r. ⌜ told r ≡ decided (endRefusals (world session (now (tiles .entry)) (now (operations .entry)) (now (journal .entry))) job) (done false) ⌝ }
+{
+    if !soundness::sound(session, tiles, operations, journal) {
+        return Reply::NotSound;
+    }
+    if 63 < job {
+        return Reply::NoSuchJob;
+    }
+    let place = job as usize;
+    if !session.marks[place] {
+        return Reply::NotOpen;
+    }
+    Reply::Done(false)
+}
+
+// What an operation with a key comes to, on sound tables.
+fn judge(
+    session: Session,
+    tiles: &[u32],
+    operations: &[u64],
+    journal: &[u8],
+    procedure: Procedure,
+    key: u32,
+) -> Decision
+    requires { ⌜ Sound (world session (now tiles) (now operations) (now journal)) ⌝ }
+    ensures { λ r. ⌜ Judges (world session (now (tiles .entry)) (now (operations .entry)) (now (journal .entry))) procedure key r ⌝ }
+{
+    match engine::admit(session, tiles, operations, procedure, key) {
+        Verdict::Held(holder) => Decision::Refuse(Reply::Held(holder)),
+        Verdict::NoTileRoom => Decision::Refuse(Reply::NoTileRoom),
+        Verdict::NoOperationRoom => Decision::Refuse(Reply::NoOperationRoom),
+        Verdict::Admitted => {
+            let used = session.journal;
+            if journal.len() - used < 10 + 4 * soundness::open_jobs(session) {
+                return Decision::Refuse(Reply::NoJournalRoom);
+            }
+            Decision::Perform(key)
+        }
+    }
+}
+
+// What an operation comes to. Its first three tests are those of a commit.
+pub fn operation_decision(
+    session: Session,
+    tiles: &[u32],
+    operations: &[u64],
+    journal: &[u8],
+    job: u8,
+    procedure: Procedure,
+    address: Address,
+) -> Decision
+    ensures { λ r. ⌜ Decides (world session (now (tiles .entry)) (now (operations .entry)) (now (journal .entry))) job procedure address r ⌝ }
+{
+    let gate = end_reply(session, tiles, operations, journal, job);
+    if !accepted(gate) {
+        return Decision::Refuse(gate);
+    }
+    match tile::address(address) {
+        Located::Refused => Decision::Refuse(Reply::OutOfRange),
+        Located::Key(key) => judge(session, tiles, operations, journal, procedure, key),
+    }
+}

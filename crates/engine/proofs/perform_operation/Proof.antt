@@ -1,0 +1,70 @@
+-- `engine::perform_operation` meets its contract: the effect on the tiles, and the entry behind the used ones
+use mathlib.Core.List.{[]}
+use mathlib.Core.Path.{_≡_, refl}
+use lib.ListN.{length}
+use denote.Ref.{now}
+use borrow.Author.Needs.{needs}
+use Rattle.service.specs.Laws.Entries.{kind-range}
+use Rattle.service.specs.World.{World, world}
+use Rattle.engine.proofs.perform_operation.Statement.{statement}
+use Rattle.engine.specs.Forms.{affected-fits, performed, slot-free}
+use Rattle.engine.specs.Laws.{tile-table}
+use Rattle.engine.proofs.perform_operation.Tie as tie
+
+-- what the function was given
+abbrev given : tie.Start → World
+given c = world (c .args .session) (now (c .args .tiles)) (now (c .args .operations)) []
+
+full : (c : tie.Start) → length (c .args .session .marks) ≡ 64
+full c = search (needs, c .good)
+
+is-present-requires : tie.Need-is-present-requires
+is-present-requires c κs = let s = c .before .before .before in tile-table (given s) (s .pre .tabled)
+
+kind-requires : tie.Need-kind-requires
+kind-requires c κs = search needs
+
+entry-requires : tie.Need-entry-requires
+entry-requires c κs = rw (c .kind .ensures) (kind-range (c .before .before .before .before .before .args .procedure) (c .before .is-present .result) .1)
+
+mul-operations : tie.Need-mul-operations
+mul-operations c = search needs
+
+slice-write-operations : tie.Need-slice-write-operations
+slice-write-operations c = let s = c .before .before .before .before .before .before in slot-free (given s) (full s) _ _ _ (s .pre)
+
+affect-requires : tie.Need-affect-requires
+affect-requires c κs =
+    let s = c .before .before .before .before .before .before .before in
+    (tile-table (given s) (s .pre .tabled), affected-fits (given s) (full s) _ _ _ (s .pre))
+
+add-next : tie.Need-add-next
+add-next c = search needs
+
+same-length : tie.Need-same-length
+same-length c = search needs
+
+same-length-2 : tie.Need-same-length-2
+same-length-2 c = search needs
+
+returns : tie.Need-returns
+returns c =
+    let e = c .before .before .before .before in
+    let s = e .before .before .before .before .before .before in
+    performed (given s) (full s) (s .args .job) (s .args .procedure) (s .args .key) (s .pre) _ _ _ (c .before .before .affect .ensures .0) (c .before .before .affect .ensures .1)
+    (rw (e .entry .ensures, e .before .kind .ensures, e .before .before .is-present .ensures) refl)
+
+pub perform-operation-spec : {M : Type 1} → statement M
+perform-operation-spec =
+    tie.close
+    (tie.spec
+    is-present-requires
+    kind-requires
+    entry-requires
+    mul-operations
+    slice-write-operations
+    affect-requires
+    add-next
+    same-length
+    same-length-2
+    returns)

@@ -1,0 +1,109 @@
+-- `engine::undo` meets its contract: at each turn the entries from i on have been undone
+use mathlib.Core.Path.{_∙_, _≡_, sym}
+use Prim.Native.Nat.{_-_, _≤_}
+use native.Mathlib.Omega.{arith}
+use lib.ListN.{getD, take}
+use lib.Seq.{getD-take, length-take-le}
+use denote.Ref.{now}
+use borrow.Author.Needs.{needs}
+use Rattle.engine.proofs.Downward.{Undoing, begins, passes, recovers, recovery-fits, same-places, table-now}
+use Rattle.engine.proofs.undo.Statement.{statement}
+use Rattle.engine.proofs.undo.Tie as tie
+
+abbrev Inv-loop : tie.InvT-loop
+Inv-loop tiles₀ count operations used job left₀ i₀ tiles left i = Undoing tiles₀ count (take used operations) job tiles left i
+
+abbrev μ-loop : tie.MeasureT-loop
+μ-loop tiles₀ count operations used job left₀ i₀ tiles left i = i
+
+-- where the loop has i entries left, the code reads the one before
+inside : (c : tie.In-loop Inv-loop μ-loop) → c .before .loop .i ≤ c .before .before .before .before .args .used
+inside c =
+    let s = c .before .before .before .before in
+    omega (arith, c .before .loop .inv .inside, length-take-le (s .args .used) (now (s .args .operations)) (s .pre .1))
+
+entry-read : (c : tie.In-loop Inv-loop μ-loop)
+    → let s = c .before .before .before .before in
+    let i = c .before .loop .i in
+    getD (now (s .args .operations)) (i - 1) 0 ≡ getD (take (s .args .used) (now (s .args .operations))) (i - 1) 0
+entry-read c =
+    let s = c .before .before .before .before in
+    sym (getD-take (s .args .used) (now (s .args .operations)) (c .before .loop .i - 1) 0 (let l = inside c in omega arith))
+
+loop-holds : tie.Need-loop-holds Inv-loop μ-loop
+loop-holds c =
+    let a = c .before .before .args in
+    let p = c .before .before .pre in
+    begins _ _ (take (a .used) (now (a .operations))) (a .job) (p .0) (p .2) (a .used) (length-take-le (a .used) (now (a .operations)) (p .1))
+
+sub-i : tie.Need-sub-i Inv-loop μ-loop
+sub-i c = omega arith
+
+mul-e : tie.Need-mul-e Inv-loop μ-loop
+mul-e c = omega (arith, inside c, c .before .before .before .before .pre .1)
+
+shared-slice-read-e : tie.Need-shared-slice-read-e Inv-loop μ-loop
+shared-slice-read-e c = omega (arith, inside (c .before), c .before .before .before .before .before .pre .1)
+
+job-in-requires : tie.Need-job-in-requires Inv-loop μ-loop
+job-in-requires c κs = search needs
+
+recover-requires : tie.Need-recover-requires Inv-loop μ-loop
+recover-requires c κs =
+    let l = c .before .before .before .before in
+    let s = l .before .before .before .before in
+    let now-there = table-now _ _ _ (s .args .job) (s .pre .0) (s .pre .2) _ _ _ (l .before .loop .inv) in (
+      now-there,
+      recovery-fits _ _ _ (s .args .job) (s .pre .0) (s .pre .2) _ _ _ (l .before .loop .inv) _ (l .loop-test .taken) (entry-read l)
+          (sym (c .before .before .job-in .ensures) ∙ c .before .if1 .taken),
+    )
+
+loop-less : tie.Need-loop-less Inv-loop μ-loop
+loop-less c = omega arith
+
+loop-again : tie.Need-loop-again Inv-loop μ-loop
+loop-again c =
+    let l = c .before .before .before .before .before .before .before in
+    let s = l .before .before .before .before in
+    recovers _ _ _ (s .args .job) (s .pre .0) (s .pre .2) _ _ _ (l .before .loop .inv) _ (l .loop-test .taken) (entry-read l)
+    (sym (c .before .before .before .before .before .job-in .ensures) ∙ c .before .before .before .before .if1 .taken) _ _ (c .before .before .recover .ensures)
+
+loop-less-2 : tie.Need-loop-less-2 Inv-loop μ-loop
+loop-less-2 c = omega arith
+
+loop-again-2 : tie.Need-loop-again-2 Inv-loop μ-loop
+loop-again-2 c =
+    let l = c .before .before .before in
+    let s = l .before .before .before .before in
+    passes _ _ _ (s .args .job) (s .pre .0) (s .pre .2) _ _ _ (l .before .loop .inv) _ (l .loop-test .taken) (entry-read l)
+    (λ e. c .if1 .left (c .before .job-in .ensures ∙ e))
+
+same-length : tie.Need-same-length Inv-loop μ-loop
+same-length c =
+    let s = c .before .before .before .before in
+    same-places _ _ _ (s .args .job) (s .pre .0) (s .pre .2) _ _ _ (c .before .loop .inv)
+
+returns : tie.Need-returns Inv-loop μ-loop
+returns c =
+    let none : c .before .loop .i ≡ 0 = omega arith in
+    let inv = rw none at (c .before .loop .inv) in
+    (inv .counted, inv .holds)
+
+pub undo-spec : {M : Type 1} → statement M
+undo-spec =
+    tie.close
+    (tie.spec
+    Inv-loop
+    μ-loop
+    loop-holds
+    sub-i
+    mul-e
+    shared-slice-read-e
+    job-in-requires
+    recover-requires
+    loop-less
+    loop-again
+    loop-less-2
+    loop-again-2
+    same-length
+    returns)

@@ -1,0 +1,22 @@
+-- An event that may happen on these tables, and the session after a job has ended
+use mathlib.Core.Bool.{false}
+use mathlib.Core.Path.{_≡_}
+use Prim.Native.Nat.{ℕ}
+use lib.ListN.{length, set}
+use Rattle.service.specs.Admission.{refusals}
+use Rattle.service.specs.Laws.Standing.{Named}
+use Rattle.service.specs.Sound.{Tabled}
+use Rattle.service.specs.Told.{refused}
+use Rattle.service.specs.World.{World, state}
+use Rattle.service.specs.declared.Session.{Session}
+use Rattle.strict.specs.Histories.{Event}
+
+-- the tables are sound, the event names a job and a key, and nothing but the journal may refuse it
+pub record Ready (w : World) (e : Event) : Type 0 where
+  pub tabled : Tabled w
+  pub named : Named e
+  pub unrefused-by : refused (refusals (length (w .tiles)) (length (w .operations)) (state w) e) ≡ false
+
+-- the job is closed, with these counts of tiles and operations
+abbrev pub closed : Session → ℕ → ℕ → ℕ → Session
+closed s job tiles operations = record { marks = set (s .marks) job false; tiles = tiles; operations = operations; journal = s .journal }

@@ -1,0 +1,158 @@
+-- What an event leaves in the tables of a sound world, in the numbers that the code moves
+use mathlib.Core.Bool.{Bool, cond, false, true}
+use mathlib.Core.List.{List, [], _++_, _∷_, map}
+use mathlib.Core.Path.{_∙_, _≡_, ap, ap₂, refl, sym}
+use Prim.Native.Nat.{_+_, _<_, _≤_, ℕ}
+use native.Mathlib.Omega.{arith}
+use lib.Dec.{eqb}
+use lib.ListN.{length, length-append, length-map, set}
+use Rattle.entries.specs.Laws.{decoded, others-without, padded-more}
+use Rattle.entries.specs.Table.{withoutJob}
+use Rattle.lists.specs.Lists.{All}
+use Rattle.lists.specs.Truth.{by-cond}
+use Rattle.service.specs.Admission.{perform}
+use Rattle.service.specs.Calls.{holding, padded}
+use Rattle.service.specs.Entry.{entryOf, foundOfKind, jobIn, keyIn, kindIn, opIn, packEntry, procedureOfKind}
+use Rattle.service.specs.Laws.Entries.{by-kind}
+use Rattle.service.specs.Laws.Standing.{Stands, stands-perform}
+use Rattle.service.specs.Laws.Storing.{tabled-stands}
+use Rattle.service.specs.Sound.{Entry, Tabled}
+use Rattle.service.specs.World.{World, state, usedOperations, usedTiles, world}
+use Rattle.strict.specs.Book.{others, recover}
+use Rattle.strict.specs.Histories.{Event, abort, commit, openJob, operation}
+use Rattle.strict.specs.Operations.{Op, apply, begun, clear, effect, kind, put, skip, undo}
+use Rattle.strict.specs.Tiles.{delete, insert, member}
+use Rattle.strict.specs.declared.Procedure.{Procedure}
+use Rattle.engine.specs.Events.{Ready, closed}
+use Rattle.engine.specs.Laws.{entry-table, operations-count, tile-table, tiles-count}
+use Rattle.engine.specs.Undoing.{recovered, undone}
+
+-- ENTRIES, WRITTEN BACK
+entry-back : (marks : List Bool) (e : ℕ) → Entry marks e → entryOf (opIn e) ≡ e
+entry-back marks e h =
+    let n : kind (procedureOfKind (kindIn e)) (foundOfKind (kindIn e)) ≡ kindIn e =
+    by-kind (λ n. kind (procedureOfKind n) (foundOfKind n) ≡ n) refl refl refl refl refl refl (kindIn e) (h .kind-low) (h .kind-high) in
+    ap (λ n. packEntry n (jobIn e) (keyIn e)) n ∙ omega arith
+
+entries-back : (marks : List Bool) (es : List ℕ) → All (Entry marks) es → map entryOf (map opIn es) ≡ es
+entries-back marks [] h = refl
+entries-back marks (e ∷ es) h = ap₂ {C = List ℕ} (λ y ys. y ∷ ys) (entry-back marks e (h .0)) (entries-back marks es (h .1))
+
+entries-without : (marks : List Bool) (job : ℕ) (es : List ℕ) → All (Entry marks) es → All (Entry marks) (withoutJob job es)
+entries-without marks job [] h = tt
+entries-without marks job (e ∷ es) h =
+    let ih = entries-without marks job es (h .1) in
+    by-cond (All (Entry marks)) (eqb job (jobIn e)) (λ _. ih) (λ _. (h .0, ih))
+
+entries-more : (us : List Op) (u : Op) → map entryOf (us ++ (u ∷ [])) ≡ map entryOf us ++ (entryOf u ∷ [])
+entries-more [] u = refl
+entries-more (x ∷ us) u = ap {B = List ℕ} (λ l. entryOf x ∷ l) (entries-more us u)
+
+-- RECOVERIES
+undo-entry : (e : ℕ) (t : List ℕ) → undo (opIn e) t ≡ recovered e t
+undo-entry e t = rw (decoded (kindIn e) .recovers) (go (eqb (kindIn e) 1) (eqb (kindIn e) 3))
+  where
+    go : (a b : Bool) → apply (cond a clear (cond b put skip)) (keyIn e) t ≡ cond a (delete (keyIn e) t) (cond b (insert (keyIn e) t) t)
+    go true b = refl
+    go false true = refl
+    go false false = refl
+
+recover-entries : (job : ℕ) (es t : List ℕ) → recover job (map opIn es) t ≡ undone job es t
+recover-entries job [] t = refl
+recover-entries job (e ∷ es) t =
+    ap (λ x. cond (eqb job (jobIn e)) (undo (opIn e) x) x) (recover-entries job es t)
+    ∙ ap (λ x. cond (eqb job (jobIn e)) x (undone job es t)) (undo-entry e (undone job es t))
+
+-- THE FORMS
+module _ (w : World) (o : Tabled w) where
+  same-tiles : padded (length (w .tiles)) (usedTiles w) ≡ w .tiles
+  same-tiles = sym (tile-table w o .zeros-behind)
+
+  same-operations : padded (length (w .operations)) (map entryOf (map opIn (usedOperations w))) ≡ w .operations
+  same-operations = ap (padded (length (w .operations))) (entries-back (w .session .marks) (usedOperations w) (o .entries)) ∙ sym (entry-table w o .zeros-behind)
+
+  pub open-form : (job : ℕ) → holding w (perform (state w) (openJob job))
+      ≡ world (record { marks = set (w .session .marks) job true; tiles = w .session .tiles; operations = w .session .operations; journal = w .session .journal })
+      (w .tiles) (w .operations) (w .journal)
+  open-form job i =
+      world (record { marks = set (w .session .marks) job true; tiles = tiles-count w o i; operations = operations-count w o i; journal = w .session .journal })
+      (same-tiles i) (same-operations i) (w .journal)
+
+  module _ (job : ℕ) where
+    abbrev left : List ℕ
+    left = withoutJob job (usedOperations w)
+
+    others-left : map entryOf (others job (map opIn (usedOperations w))) ≡ left
+    others-left =
+        ap (map entryOf) (sym (others-without job (usedOperations w)))
+        ∙ entries-back (w .session .marks) left (entries-without (w .session .marks) job (usedOperations w) (o .entries))
+
+    others-count : length (others job (map opIn (usedOperations w))) ≡ length left
+    others-count = ap length (sym (others-without job (usedOperations w))) ∙ length-map left opIn
+
+    pub commit-form : holding w (perform (state w) (commit job)) ≡ world (closed (w .session) job (w .session .tiles) (length left)) (w .tiles) (padded (length (w .operations)) left) (w .journal)
+    commit-form i =
+        world (closed (w .session) job (tiles-count w o i) (others-count i)) (same-tiles i) (padded (length (w .operations)) (others-left i)) (w .journal)
+
+    abbrev undoneTiles : List ℕ
+    undoneTiles = undone job (usedOperations w) (usedTiles w)
+
+    pub abort-form : holding w (perform (state w) (abort job))
+        ≡ world (closed (w .session) job (length undoneTiles) (length left)) (padded (length (w .tiles)) undoneTiles) (padded (length (w .operations)) left) (w .journal)
+    abort-form i =
+        let t = recover-entries job (usedOperations w) (usedTiles w) i in
+        world (closed (w .session) job (length t) (others-count i)) (padded (length (w .tiles)) t) (padded (length (w .operations)) (others-left i)) (w .journal)
+
+  module _ (job : ℕ) (p : Procedure) (key : ℕ) where
+    abbrev new : ℕ
+    new = packEntry (kind p (member key (usedTiles w))) job key
+
+    abbrev affected : List ℕ
+    affected = apply (effect p) key (usedTiles w)
+
+    more-operations : map entryOf (map opIn (usedOperations w) ++ (begun job p key (usedTiles w) ∷ [])) ≡ usedOperations w ++ (new ∷ [])
+    more-operations =
+        entries-more (map opIn (usedOperations w)) (begun job p key (usedTiles w))
+        ∙ ap (λ l. l ++ (new ∷ [])) (entries-back (w .session .marks) (usedOperations w) (o .entries))
+
+    more-count : length (map opIn (usedOperations w) ++ (begun job p key (usedTiles w) ∷ [])) ≡ w .session .operations + 1
+    more-count = length-append (map opIn (usedOperations w)) (begun job p key (usedTiles w) ∷ []) ∙ ap (λ n. n + 1) (operations-count w o)
+
+    pub operation-form : holding w (perform (state w) (operation job p key))
+        ≡ world (record { marks = w .session .marks; tiles = length affected; operations = w .session .operations + 1; journal = w .session .journal })
+        (padded (length (w .tiles)) affected) (padded (length (w .operations)) (usedOperations w ++ (new ∷ []))) (w .journal)
+    operation-form i =
+        world (record { marks = w .session .marks; tiles = length affected; operations = more-count i; journal = w .session .journal })
+        (padded (length (w .tiles)) affected) (padded (length (w .operations)) (more-operations i)) (w .journal)
+
+-- WHAT THE CODE LEAVES
+module _ (w : World) (few : length (w .session .marks) ≡ 64) where
+  -- the tables that a ready event leaves have their places
+  stands-after : (e : Event) → Ready w e → Stands (length (w .tiles)) (length (w .operations)) (perform (state w) e)
+  stands-after e r = stands-perform (length (w .tiles)) (length (w .operations)) (state w) (tabled-stands w few (r .tabled)) e (r .named) (r .unrefused-by)
+
+  module _ (job : ℕ) (p : Procedure) (key : ℕ) (r : Ready w (operation job p key)) where
+    pub affected-fits : length (apply (effect p) key (usedTiles w)) ≤ length (w .tiles)
+    affected-fits = let room = stands-after (operation job p key) r .room in omega arith
+
+    pub slot-free : w .session .operations < length (w .operations)
+    slot-free = let fits = stands-after (operation job p key) r .fits in omega (arith, more-count w (r .tabled) job p key)
+
+    pub performed : (count : ℕ) (tiles operations : List ℕ)
+        → count ≡ length (apply (effect p) key (usedTiles w))
+        → tiles ≡ padded (length (w .tiles)) (apply (effect p) key (usedTiles w))
+        → operations ≡ set (w .operations) (w .session .operations) (packEntry (kind p (member key (usedTiles w))) job key)
+        → world (record { marks = w .session .marks; tiles = count; operations = w .session .operations + 1; journal = w .session .journal }) tiles operations (w .journal)
+        ≡ holding w (perform (state w) (operation job p key))
+    performed count tiles operations a b c =
+        let new = packEntry (kind p (member key (usedTiles w))) job key in
+        let more = c ∙ padded-more (w .operations) (w .session .operations) new slot-free (entry-table w (r .tabled)) in
+        (λ i. world (record { marks = w .session .marks; tiles = a i; operations = w .session .operations + 1; journal = w .session .journal }) (b i) (more i) (w .journal))
+        ∙ sym (operation-form w (r .tabled) job p key)
+
+  pub aborted : (job : ℕ) → Ready w (abort job) → (count left : ℕ) (tiles operations : List ℕ)
+      → count ≡ length (undone job (usedOperations w) (usedTiles w)) → tiles ≡ padded (length (w .tiles)) (undone job (usedOperations w) (usedTiles w))
+      → left ≡ length (withoutJob job (usedOperations w)) → operations ≡ padded (length (w .operations)) (withoutJob job (usedOperations w))
+      → world (closed (w .session) job count left) tiles operations (w .journal) ≡ holding w (perform (state w) (abort job))
+  aborted job r count left tiles operations a b c d =
+      (λ i. world (closed (w .session) job (a i) (c i)) (b i) (d i) (w .journal)) ∙ sym (abort-form w (r .tabled) job)
