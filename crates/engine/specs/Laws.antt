@@ -10,13 +10,14 @@ use lib.Seq.{length-take-le}
 use Rattle.entries.specs.Laws.{reserved-three}
 use Rattle.entries.specs.Table.{EntryTable, countThree}
 use Rattle.service.specs.Entry.{opIn}
+use Rattle.service.specs.Laws.Storing.{padded-zeros}
 use Rattle.service.specs.Sound.{Tabled}
 use Rattle.service.specs.World.{World, state, usedOperations, usedTiles}
 use Rattle.strict.specs.Book.{Book, heldBy, needsPlace, spokenFor}
 use Rattle.strict.specs.Operations.{begun}
 use Rattle.strict.specs.Strict.{alone}
 use Rattle.strict.specs.declared.Procedure.{Procedure}
-use Rattle.tiles.specs.Laws.{padded-zeros, zeros-table}
+use Rattle.tiles.specs.Laws.{zeros-table}
 use Rattle.tiles.specs.Table.{TileTable}
 use Rattle.engine.specs.Verdicts.{byHolder, verdictOf}
 use Rattle.engine.specs.declared.Verdict.{Verdict}

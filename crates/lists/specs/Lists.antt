@@ -1,8 +1,13 @@
 -- Tests of all members of a list, and what they say
+use mathlib.Core.Bool.{Bool, _&&_, true}
+use mathlib.Core.List.{List, [], _∷_}
 use mathlib.Core.Path.{_≡_, refl}
-use mathlib.Core.Bool.{Bool, true, _&&_}
-use mathlib.Core.List.{List, [], _∷_, _++_}
-use Rattle.lists.specs.Truth.{both, and-both}
+use Prim.Native.Nat.{_+_, _<_, _≤_, ℕ}
+use native.Mathlib.Numerals.{add-one}
+use native.Mathlib.Omega.{arith}
+use lib.ListN.{drop-of-length-le, getD, length, length-take, take}
+use lib.Seq.{slice, slice-cons}
+use Rattle.lists.specs.Truth.{and-both, both}
 
 abbrev pub all : {A : Type 0} → (A → Bool) → List A → Bool
 all f [] = true
@@ -20,3 +25,11 @@ module _ {A : Type 0} (f : A → Bool) (P : A → Type 0) where
   pub is-all : ((x : A) → P x → f x ≡ true) → (xs : List A) → All P xs → all f xs ≡ true
   is-all g [] h = refl
   is-all g (x ∷ xs) h = and-both (g x (h .0)) (is-all g xs (h .1))
+
+-- A PASS over the first n elements of a list: before the one at i, `slice i n l` is left
+module _ (l : List ℕ) (n i : ℕ) where
+  pub slice-end : n ≤ i → slice i n l ≡ []
+  slice-end h = drop-of-length-le (take n l) {i = i} (simp length-take (omega arith))
+
+  pub slice-next : n ≤ length l → i < n → slice i n l ≡ getD l i 0 ∷ slice (i + 1) n l
+  slice-next fits inside = rw add-one (slice-cons i n l 0 inside fits)

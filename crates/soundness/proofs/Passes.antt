@@ -6,10 +6,10 @@ use Prim.Native.Nat.{_+_, _<_, _≤_, suc, ℕ}
 use native.Mathlib.Numerals.{add-one}
 use native.Mathlib.Omega.{arith}
 use lib.Dec.{ltb}
-use lib.ListN.{drop, drop-of-length-le, getD, length, length-take, take}
-use lib.Seq.{drop-cons, slice, slice-cons}
+use lib.ListN.{drop, getD, length}
+use lib.Seq.{drop-cons, slice}
 use borrow.Author.Tests.{lt-ltb}
-use Rattle.lists.specs.Lists.{all}
+use Rattle.lists.specs.Lists.{all, slice-end, slice-next}
 use Rattle.lists.specs.Truth.{oneIf}
 use Rattle.service.specs.Admission.{openMarks}
 use Rattle.service.specs.Entry.{keyIn, kindIn}
@@ -39,33 +39,27 @@ above-first false b keys above = and-false (b && keys)
 
 -- ANY PASS
 module _ (l : List ℕ) (n i : ℕ) where
-  none-left : n ≤ i → slice i n l ≡ []
-  none-left h = drop-of-length-le (take n l) {i = i} (simp length-take (omega arith))
-
   pub all-end : (f : ℕ → Bool) → n ≤ i → all f (slice i n l) ≡ true
-  all-end f h = rw (none-left h)
+  all-end f h = rw (slice-end l n i h)
 
   pub keys-end : (low : ℕ) → n ≤ i → keysFrom low (slice i n l) ≡ true
-  keys-end low h = rw (none-left h)
+  keys-end low h = rw (slice-end l n i h)
 
   pub settled-end : (t : List ℕ) → n ≤ i → settledB t (slice i n l) ≡ true
-  settled-end t h = rw (none-left h)
+  settled-end t h = rw (slice-end l n i h)
 
   -- whatever the tests of the element at i say
   module _ (fits : n ≤ length l) (inside : i < n) where
-    next : slice i n l ≡ getD l i 0 ∷ slice (i + 1) n l
-    next = rw add-one (slice-cons i n l 0 inside fits)
-
     pub all-turn : (f : ℕ → Bool) {b : Bool} → f (getD l i 0) ≡ b → all f (slice i n l) ≡ (b && all f (slice (i + 1) n l))
-    all-turn f e = rw (next, e)
+    all-turn f e = rw (slice-next l n i fits inside, e)
 
     pub keys-turn : (low : ℕ) {a b : Bool} → ltb low (getD l i 0) ≡ a → isKey (getD l i 0) ≡ b
         → keysFrom low (slice i n l) ≡ (a && b && keysFrom (getD l i 0) (slice (i + 1) n l))
-    keys-turn low {a} {b} above valid = rw (next, above, valid) (above-first a b _ _)
+    keys-turn low {a} {b} above valid = rw (slice-next l n i fits inside, above, valid) (above-first a b _ _)
 
     pub settled-turn : (t : List ℕ) {a d : Bool} → asLeft (kindIn (getD l i 0)) (member (keyIn (getD l i 0)) t) ≡ a
         → (not (changing (kindIn (getD l i 0))) || elsewhere (keyIn (getD l i 0)) (slice (i + 1) n l)) ≡ d → settledB t (slice i n l) ≡ (a && d && settledB t (slice (i + 1) n l))
-    settled-turn t left own = rw (next, left, own)
+    settled-turn t left own = rw (slice-next l n i fits inside, left, own)
 
 -- MARKS
 pub marks-turn : (marks : List Bool) (i : ℕ) → i < length marks → {b : Bool} → getD marks i false ≡ b → openMarks (drop i marks) ≡ oneIf b + openMarks (drop (i + 1) marks)

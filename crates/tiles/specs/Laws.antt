@@ -1,31 +1,22 @@
 -- How a tile table comes about, and what `put` and `clear` leave of it
 use mathlib.Core.Bool.{Bool, false, true}
-use mathlib.Core.List.{List, [], _++_, _∷_}
-use mathlib.Core.Path.{_∙_, _≡_, ap, ap₂, refl, sym}
+use mathlib.Core.List.{List}
+use mathlib.Core.Path.{_∙_, _≡_, ap, refl}
 use Prim.Native.Nat.{_+_, _-_, _<_, _≤_, ℕ}
 use native.Mathlib.Omega.{arith}
-use lib.ListN.{drop, length, length-drop, replicate, take, take-append-drop}
+use lib.ListN.{drop, length, replicate, take}
 use lib.Seq.{drop-at, length-take-le}
 use Rattle.lists.specs.Lists.{All}
 use Rattle.lists.specs.Truth.{oneIf}
+use Rattle.service.specs.Calls.{padded}
+use Rattle.service.specs.Laws.Storing.{length-padded, padded-zeros, used-padded}
 use Rattle.strict.specs.Laws.Members.{ascending-apply}
 use Rattle.strict.specs.Laws.Room.{length-delete, length-insert}
 use Rattle.strict.specs.Operations.{clear, put}
 use Rattle.strict.specs.Tiles.{Ascending, delete, insert, member}
-use Rattle.service.specs.Calls.{padded}
-use Rattle.service.specs.Laws.Storing.{length-padded, used-padded}
 use Rattle.tiles.specs.Table.{TileTable}
 
 -- from a count that fits, with nothing but 0 behind what is used
-all-zeros : (xs : List ℕ) → All (λ x. x ≡ 0) xs → xs ≡ replicate (length xs) 0
-all-zeros [] h = refl
-all-zeros (x ∷ xs) h = ap₂ {C = List ℕ} (λ y ys. y ∷ ys) (h .0) (all-zeros xs (h .1))
-
-pub padded-zeros : (count : ℕ) (l : List ℕ) → count ≤ length l → All (λ x. x ≡ 0) (drop count l) → l ≡ padded (length l) (take count l)
-padded-zeros count l fit zeros =
-    sym (take-append-drop count l)
-    ∙ ap (λ r. take count l ++ r) (all-zeros (drop count l) zeros ∙ rw (length-drop count l, length-take-le count l fit))
-
 pub zeros-table : (count : ℕ) (l : List ℕ) → count ≤ length l → Ascending (take count l) → All (λ x. x ≡ 0) (drop count l) → TileTable l count
 zeros-table count l fit asc zeros = record { fits = fit; ascending = asc; zeros-behind = padded-zeros count l fit zeros }
 

@@ -4,7 +4,7 @@ use mathlib.Core.List.{List, [], _++_, _∷_, map}
 use mathlib.Core.Path.{_∙_, _≡_, ap, ap₂, refl, subst, sym}
 use Prim.Native.Nat.{_*_, _+_, _-_, _<_, _≤_, suc, zero, ℕ}
 use native.Mathlib.Omega.{arith}
-use lib.ListN.{drop, getD, length, length-append, length-map, length-replicate, replicate, set, take}
+use lib.ListN.{drop, getD, length, length-append, length-drop, length-map, length-replicate, replicate, set, take, take-append-drop}
 use lib.Seq.{drop-append-seam, drop-at, length-sets, length-take-le, sets-eq, take-append-seam, take-at}
 use Rattle.lists.specs.Lists.{All}
 use Rattle.lists.specs.Truth.{never}
@@ -178,3 +178,13 @@ closes-one (true ∷ bs) zero e = refl
 closes-one (false ∷ bs) zero e = never (sym e)
 closes-one (true ∷ bs) (suc j) e = ap suc (closes-one bs j e)
 closes-one (false ∷ bs) (suc j) e = closes-one bs j e
+
+-- a table with nothing but 0 behind what is used
+all-zeros : (xs : List ℕ) → All (λ x. x ≡ 0) xs → xs ≡ replicate (length xs) 0
+all-zeros [] h = refl
+all-zeros (x ∷ xs) h = ap₂ {C = List ℕ} (λ y ys. y ∷ ys) (h .0) (all-zeros xs (h .1))
+
+pub padded-zeros : (count : ℕ) (l : List ℕ) → count ≤ length l → All (λ x. x ≡ 0) (drop count l) → l ≡ padded (length l) (take count l)
+padded-zeros count l fit zeros =
+    sym (take-append-drop count l)
+    ∙ ap (λ r. take count l ++ r) (all-zeros (drop count l) zeros ∙ rw (length-drop count l, length-take-le count l fit))
