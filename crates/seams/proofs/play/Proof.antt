@@ -1,0 +1,118 @@
+-- `seams::play` meets its contract, which is only that it ends: each turn takes four bytes of the story
+use mathlib.Core.Path.{_≡_}
+use Prim.Native.Nat.{_+_, _-_, _<_, _≤_}
+use native.Mathlib.Omega.{arith}
+use lib.ListN.{length}
+use denote.Ref.{now}
+use borrow.Author.Needs.{needs}
+use Rattle.seams.proofs.play.Statement.{statement}
+use Rattle.seams.proofs.play.Tie as tie
+
+abbrev Inv-loop : tie.InvT-loop
+Inv-loop name tiles₀ count operations₀ journal₀ story session₀ at₀ t11 t12 tiles operations journal session at =
+    (at ≤ length story) × (length tiles ≡ length tiles₀) × (length operations ≡ length operations₀) × (length journal ≡ length journal₀)
+
+abbrev μ-loop : tie.MeasureT-loop
+μ-loop name tiles₀ count operations₀ journal₀ story session₀ at₀ t11 t12 tiles operations journal session at =
+    length story - at
+
+-- a story's length is a number of the machine
+few : (c : tie.After-shared-slice-known2 Inv-loop μ-loop) → length (now (c .before .before .before .before .before .args .story)) < 18446744073709551616
+few c = omega arith
+
+print-requires : tie.Need-print-requires Inv-loop μ-loop
+print-requires c κs = search needs
+
+start-requires : tie.Need-start-requires Inv-loop μ-loop
+start-requires c κs = search needs
+
+print-reply-requires : tie.Need-print-reply-requires Inv-loop μ-loop
+print-reply-requires c κs = search needs
+
+loop-holds : tie.Need-loop-holds Inv-loop μ-loop
+loop-holds c = omega arith
+
+add-loop : tie.Need-add-loop Inv-loop μ-loop
+add-loop c = omega arith
+
+add-step : tie.Need-add-step Inv-loop μ-loop
+add-step c = omega arith
+
+sub-step : tie.Need-sub-step Inv-loop μ-loop
+sub-step c = omega arith
+
+part-step-start : tie.Need-part-step-start Inv-loop μ-loop
+part-step-start c = omega arith
+
+part-step-end : tie.Need-part-step-end Inv-loop μ-loop
+part-step-end c = omega arith
+
+step-requires : tie.Need-step-requires Inv-loop μ-loop
+step-requires c κs = search needs
+
+add-at : tie.Need-add-at Inv-loop μ-loop
+add-at c =
+    let more : c .before .before .before .before .before .before .before .before .before .before .before .before .loop .at + 4 ≤ length (now (c .before .before .before .before .before .before .before .before .before .before .before .before .before .before .before .before .before .before .before .before .before .before .before .before .before .before .before .args .story)) = c .before .before .before .before .before .before .before .before .before .before .before .loop-test .taken in
+    omega (arith, more, few (c .before .before .before .before .before .before .before .before .before .before .before .before .before .before .before .before .before .before .before .before .before .before))
+
+loop-less : tie.Need-loop-less Inv-loop μ-loop
+loop-less c = omega arith
+
+loop-again : tie.Need-loop-again Inv-loop μ-loop
+loop-again c = omega arith
+
+slice-aggregate-print : tie.Need-slice-aggregate-print Inv-loop μ-loop
+slice-aggregate-print c = omega arith
+
+print-requires-2 : tie.Need-print-requires-2 Inv-loop μ-loop
+print-requires-2 c κs = search needs
+
+print-number-requires : tie.Need-print-number-requires Inv-loop μ-loop
+print-number-requires c κs = search needs
+
+slice-aggregate-print-2 : tie.Need-slice-aggregate-print-2 Inv-loop μ-loop
+slice-aggregate-print-2 c = omega arith
+
+print-requires-3 : tie.Need-print-requires-3 Inv-loop μ-loop
+print-requires-3 c κs = search needs
+
+same-length : tie.Need-same-length Inv-loop μ-loop
+same-length c = omega arith
+
+same-length-2 : tie.Need-same-length-2 Inv-loop μ-loop
+same-length-2 c = omega arith
+
+same-length-3 : tie.Need-same-length-3 Inv-loop μ-loop
+same-length-3 c = omega arith
+
+returns : tie.Need-returns Inv-loop μ-loop
+returns c = omega arith
+
+pub play-spec : {M : Type 1} → statement M
+play-spec =
+    tie.close
+    (tie.spec
+    Inv-loop
+    μ-loop
+    print-requires
+    start-requires
+    print-reply-requires
+    loop-holds
+    add-loop
+    add-step
+    sub-step
+    part-step-start
+    part-step-end
+    step-requires
+    add-at
+    loop-less
+    loop-again
+    slice-aggregate-print
+    print-requires-2
+    print-number-requires
+    slice-aggregate-print-2
+    print-requires-3
+    same-length
+    same-length-2
+    same-length-3
+    returns)

@@ -1,0 +1,264 @@
+// Runs the seam cases on the calls and prints every reply: its number, its answer and its holder.
+ghost use Prim.Native.Nat.{_≤_};
+ghost use lib.ListN.{length};
+use libc::STDOUT_FILENO;
+use service::Address;
+use service::Located;
+use service::Outcome;
+use service::Reply;
+use service::Session;
+use strict::Procedure;
+
+// The key of tile A.
+const A: u32 = 1073987589;
+
+fn print(text: &[u8]) {
+    io::write_all(STDOUT_FILENO, text);
+}
+
+fn print_number(n: u64) {
+    io::print_decimal(STDOUT_FILENO, n);
+}
+
+fn answer(reply: Reply) -> u8 {
+    match reply {
+        Reply::Done(ok) => ok as u8,
+        _ => 0,
+    }
+}
+
+fn holder(reply: Reply) -> u8 {
+    match reply {
+        Reply::Held(job) => job,
+        _ => 0,
+    }
+}
+
+fn print_reply(reply: Reply) {
+    print(b" -> ");
+    print_number(decisions::number(reply) as u64);
+    print(b" answer ");
+    print_number(answer(reply) as u64);
+    print(b" holder ");
+    print_number(holder(reply) as u64);
+    print(b"\n");
+}
+
+fn at(zoom: u8, column: i32, row: i32) -> Address {
+    Address { zoom, column, row }
+}
+
+// Tiles A and B, a row too far south, a level too low and a level too high.
+fn address_of(tile: u8) -> Address {
+    match tile {
+        b'A' => at(4, -1, 5),
+        b'B' => at(4, 16, 0),
+        b's' => at(4, 0, 16),
+        b'l' => at(3, 0, 0),
+        _ => at(15, 0, 0),
+    }
+}
+
+// The address step: its reply and its key, which is 0 where it refuses.
+fn show_address(name: &[u8], tile: u8) {
+    print(name);
+    match sanbirogu::address(address_of(tile)) {
+        Located::Key(key) => {
+            print(b" -> 0 key ");
+            print_number(key as u64);
+        }
+        Located::Refused => print(b" -> 5 key 0"),
+    }
+    print(b"\n");
+}
+
+// A digit is a job; anything else is job 64.
+fn job_of(name: u8) -> u8 {
+    match name {
+        b'0'..=b'9' => name - b'0',
+        _ => 64,
+    }
+}
+
+// One call: `(` opens, `)` commits, `!` aborts, `+` inserts, `-` deletes, and `?` asks.
+fn call(
+    session: Session,
+    tiles: &mut [u32],
+    operations: &mut [u64],
+    journal: &mut [u8],
+    job: u8,
+    what: u8,
+    tile: u8,
+) -> Outcome {
+    let address = address_of(tile);
+    match what {
+        b'(' => sanbirogu::open(session, tiles, operations, journal, job),
+        b')' => sanbirogu::commit(session, tiles, operations, journal, job),
+        b'!' => sanbirogu::abort(session, tiles, operations, journal, job),
+        b'+' => sanbirogu::operation(
+            session,
+            tiles,
+            operations,
+            journal,
+            job,
+            Procedure::Ins,
+            address,
+        ),
+        b'-' => sanbirogu::operation(
+            session,
+            tiles,
+            operations,
+            journal,
+            job,
+            Procedure::Del,
+            address,
+        ),
+        _ => sanbirogu::operation(
+            session,
+            tiles,
+            operations,
+            journal,
+            job,
+            Procedure::Mem,
+            address,
+        ),
+    }
+}
+
+// One call of a story, named by three bytes: the job, the call and the tile. Answers the session after it.
+fn step(
+    session: Session,
+    tiles: &mut [u32],
+    operations: &mut [u64],
+    journal: &mut [u8],
+    named: &[u8],
+) -> Session
+    requires { ⌜ 3 ≤ length (now named) ⌝ }
+{
+    let job = job_of(named[0]);
+    let done = call(session, tiles, operations, journal, job, named[1], named[2]);
+    let reply = done.reply;
+    print(b"  ");
+    print(named);
+    print_reply(reply);
+    done.session
+}
+
+// Tells a story from a start: four bytes for each call, of which the last is a space.
+fn play(
+    name: &[u8],
+    tiles: &mut [u32],
+    count: usize,
+    operations: &mut [u64],
+    journal: &mut [u8],
+    story: &[u8],
+) {
+    print(name);
+    let begun = sanbirogu::start(tiles, count, operations, journal);
+    let reply = begun.reply;
+    print_reply(reply);
+    let mut session = begun.session;
+    let mut at: usize = 0;
+    while at + 4 <= story.len() {
+        session = step(session, tiles, operations, journal, &story[at..at + 3]);
+        at += 4;
+    }
+    print(b"  tiles ");
+    print_number(session.tiles as u64);
+    print(b"\n");
+}
+
+// The same with room for four operations and 64 bytes of journal.
+fn tell(name: &[u8], tiles: &mut [u32], count: usize, story: &[u8]) {
+    let mut operations = [0u64; 4];
+    let mut journal = [0u8; 64];
+    play(name, tiles, count, &mut operations, &mut journal, story);
+}
+
+// Undo by inverses between two jobs: the cases of the report.
+fn two_jobs() {
+    tell(
+        b"No tiles, both insert A",
+        &mut [0, 0],
+        0,
+        b"1(  2(  1+A 2+A ",
+    );
+    tell(
+        b"No tiles, insert A and ask",
+        &mut [0, 0],
+        0,
+        b"1(  1+A 1?A ",
+    );
+    tell(
+        b"A, insert and delete",
+        &mut [A, 0],
+        1,
+        b"1(  2(  1+A 2-A 1!  2)  3(  3?A ",
+    );
+    tell(b"A, ask and delete", &mut [A, 0], 1, b"1(  2(  1?A 2-A ");
+    tell(
+        b"No tiles, delete and insert",
+        &mut [0, 0],
+        0,
+        b"1(  2(  1-A 2+A 1!  2)  3(  3?A ",
+    );
+}
+
+// A tile that is deleted keeps its place until the delete has committed.
+fn one_place() {
+    tell(
+        b"One place, delete A and insert B",
+        &mut [A],
+        1,
+        b"1(  2(  1-A 2+B 1)  2+B ",
+    );
+    tell(
+        b"One place, delete A and insert A",
+        &mut [A],
+        1,
+        b"1(  2(  1-A 2+A ",
+    );
+    tell(b"One place, insert A", &mut [A], 1, b"1(  1+A ");
+}
+
+// Each reply from 1 to 9, and that the lowest is given.
+fn refusals() {
+    tell(b"Addresses out of range", &mut [0], 0, b"1(  1+s 1?l 1-h ");
+    tell(
+        b"The job is looked at first",
+        &mut [0],
+        0,
+        b"z(  z+s z)  z!  1+s 1)  1!  1(  1(  ",
+    );
+    tell(
+        b"Operations table full",
+        &mut [0],
+        0,
+        b"1(  1?A 1-B 1?A 1-B 1?A 1+B 1)  1(  ",
+    );
+    play(
+        b"Journal of 22 bytes",
+        &mut [0],
+        0,
+        &mut [0],
+        &mut [0; 22],
+        b"1(  2(  1?A 2(  1!  3(  2)  ",
+    );
+    tell(b"A count past the table", &mut [0], 2, b"1(  1?A 1)  1!  ");
+    tell(b"A key behind the count", &mut [A], 0, b"1(  1?A 1)  1!  ");
+}
+
+fn addresses() {
+    show_address(b"4 -1 5", b'A');
+    show_address(b"4 16 0", b'B');
+    show_address(b"4 0 16", b's');
+    show_address(b"3 0 0", b'l');
+    show_address(b"15 0 0", b'h');
+}
+
+fn main() {
+    addresses();
+    two_jobs();
+    one_place();
+    refusals();
+}
