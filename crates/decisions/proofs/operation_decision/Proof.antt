@@ -44,19 +44,25 @@ judge-requires : tie.Need-judge-requires
 judge-requires c κs =
     let e = c .before .before .before .before in
     let s = e .before .before .before .before .before .before in
-    passed-sound (given s) (s .args .job) (s .args .procedure) (s .args .address) (e .before .before .end-reply .result) (e .before .before .end-reply .ensures) (zero e)
+    let gate = e .before .before .end-reply in
+    passed-sound (given s) (s .args .job) (s .args .procedure) (s .args .address) (gate .result) (gate .ensures) (zero e)
 
 returns-2 : tie.Need-returns-2
 returns-2 c =
     let e = c .before .before .before in
     let s = e .before .before .before .before .before .before in
-    decides-no-key (given s) (s .args .job) (s .args .procedure) (s .args .address) (e .before .before .end-reply .result) (e .before .before .end-reply .ensures) (zero e) (ap placed (sym (c .enum-told .given .1)) ∙ c .before .before .address .ensures)
+    let gate = e .before .before .end-reply in
+    decides-no-key (given s) (s .args .job) (s .args .procedure) (s .args .address) (gate .result) (gate .ensures) (zero e)
+    (ap placed (sym (c .enum-told .given .1)) ∙ c .before .before .address .ensures)
 
 returns-3 : tie.Need-returns-3
 returns-3 c =
-    let e = c .before .before .before .before .before in
+    let key = c .before .before in
+    let e = key .before .before .before in
     let s = e .before .before .before .before .before .before in
-    decides-judged (given s) (s .args .job) (s .args .procedure) (s .args .address) (e .before .before .end-reply .result) (e .before .before .end-reply .ensures) (zero e) _ (c .judge .result) (ap placed (sym (c .before .before .key .given .1)) ∙ c .before .before .before .before .address .ensures) (c .judge .ensures)
+    let gate = e .before .before .end-reply in
+    decides-judged (given s) (s .args .job) (s .args .procedure) (s .args .address) (gate .result) (gate .ensures) (zero e) _ (c .judge .result)
+    (ap placed (sym (key .key .given .1)) ∙ key .before .before .address .ensures) (c .judge .ensures)
 
 pub operation-decision-spec : {M : Type 1} → statement M
 operation-decision-spec =

@@ -50,8 +50,12 @@ same-length-6 c = search needs
 
 returns-2 : tie.Need-returns-2
 returns-2 c =
-    let s = c .before .before .before .before .before .before .before .before .before .before .before .before .before .before .before .before .before .before .before .before in
-    c .before .before .before .before .before .before .carry-out .ensures ∙ carried-decided (given s) (s .args .job) (s .args .procedure) (s .args .address) _ (c .before .before .before .before .before .before .before .before .before .before .before .before .before .operation-decision .ensures) _ (c .before .before .before .before .before .before .before .before .before .before .before .key .given .1)
+    let done = c .before .before .before .before .before .before in
+    let key = done .before .before .before .before .before in
+    let decided = key .before .before in
+    let s = decided .before .before .before .before .before .before .before in
+    done .carry-out .ensures
+    ∙ carried-decided (given s) (s .args .job) (s .args .procedure) (s .args .address) _ (decided .operation-decision .ensures) _ (key .key .given .1)
 
 pub operation-spec : {M : Type 1} → statement M
 operation-spec =

@@ -31,8 +31,11 @@ same-length-2 c = search needs
 
 returns-2 : tie.Need-returns-2
 returns-2 c =
-    let a = c .before .before .before .before .before .before .before .before .before .before .before .args in
-    start-done (now (a .tiles)) (a .count) (now (a .operations)) (now (a .journal)) _ (test-passes (c .before .before .before .before .before .before .can-start .ensures) (c .before .before .before .before .before .if1 .left)) (c .fresh-session2 .ensures) _ (c .before .before .before .clear-all .ensures)
+    let cleared = c .before .before .before in
+    let e = cleared .before .before in
+    let a = e .before .before .before .before .before .before .args in
+    start-done (now (a .tiles)) (a .count) (now (a .operations)) (now (a .journal)) _ (test-passes (e .before .can-start .ensures) (e .if1 .left))
+    (c .fresh-session2 .ensures) _ (cleared .clear-all .ensures)
 
 pub start-spec : {M : Type 1} → statement M
 start-spec =

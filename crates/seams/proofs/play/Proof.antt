@@ -52,8 +52,10 @@ step-requires c κs = search needs
 
 add-at : tie.Need-add-at Inv-loop μ-loop
 add-at c =
-    let more : c .before .before .before .before .before .before .before .before .before .before .before .before .loop .at + 4 ≤ length (now (c .before .before .before .before .before .before .before .before .before .before .before .before .before .before .before .before .before .before .before .before .before .before .before .before .before .before .before .args .story)) = c .before .before .before .before .before .before .before .before .before .before .before .loop-test .taken in
-    omega (arith, more, few (c .before .before .before .before .before .before .before .before .before .before .before .before .before .before .before .before .before .before .before .before .before .before))
+    let test = c .before .before .before .before .before .before .before .before .before .before .before in
+    let known = test .before .before .before .before .before .before .before .before .before .before .before in
+    let more : test .before .loop .at + 4 ≤ length (now (known .before .before .before .before .before .args .story)) = test .loop-test .taken in
+    omega (arith, more, few known)
 
 loop-less : tie.Need-loop-less Inv-loop μ-loop
 loop-less c = omega arith
