@@ -1,16 +1,14 @@
 -- What each test of a call decides
 use mathlib.Core.Bool.{Bool, _||_, cond, false, true}
 use mathlib.Core.List.{List, [], _++_, _∷_}
-use mathlib.Core.Option.{some}
-use mathlib.Core.Path.{_∙_, _≡_, ap, refl, subst, sym}
+use mathlib.Core.Path.{_∙_, _≡_, ap, refl, sym}
 use Prim.Native.Nat.{_*_, _+_, _<_, _≤_, ℕ}
 use lib.Dec.{eqb, ltb}
 use lib.ListN.{length}
 use borrow.Author.Tests.{eqb-true, le-ltb, lt-ltb, not-false}
-use Rattle.engine.specs.Laws.{Means, verdict-means}
-use Rattle.engine.specs.Verdicts.{verdictOf}
-use Rattle.engine.specs.declared.Verdict.{Verdict}
+use Rattle.engine.specs.Laws.{Means, same-holder}
 use Rattle.engine.specs.declared.Verdict.the-variants.{Admitted, Held, NoOperationRoom, NoTileRoom}
+use Rattle.engine.specs.declared.Verdict.{Verdict}
 use Rattle.lists.specs.Truth.{never}
 use Rattle.service.specs.Admission.{isOpen, openMarks}
 use Rattle.service.specs.Calls.{endRefusals, openRefusals, operationRefusals}
@@ -24,16 +22,12 @@ use Rattle.service.specs.Told.{Refusal, Told, bare, decided, done, refuse, refu
 use Rattle.service.specs.World.{World, freeBytes, state}
 use Rattle.service.specs.declared.Address.{Address}
 use Rattle.service.specs.declared.Located.the-variants.{Key, Refused}
+use Rattle.service.specs.declared.Reply.the-variants as reply
 use Rattle.service.specs.declared.Reply.{Reply}
-use Rattle.strict.specs.Book.{heldBy}
-use Rattle.strict.specs.Commutativity.{holder, holds}
-use Rattle.strict.specs.Operations.{Op, begun}
-use Rattle.strict.specs.Strict.{alone}
 use Rattle.strict.specs.declared.Procedure.{Procedure}
 use Rattle.decisions.specs.Decides.{Decides, Judges, lastRefusals}
-use Rattle.decisions.specs.declared.Decision.{Decision}
 use Rattle.decisions.specs.declared.Decision.the-variants.{Perform, Refuse}
-use Rattle.service.specs.declared.Reply.the-variants as reply
+use Rattle.decisions.specs.declared.Decision.{Decision}
 
 -- refusals that stand one after another
 pub decided-append : (rs qs : List Refusal) (t : Told) → decided (rs ++ qs) t ≡ decided rs (decided qs t)
@@ -81,11 +75,6 @@ module _ (w : World) (job : ℕ) (t : Told) where
         open-done h = rw (sound, le-ltb 63 job small, closed, le-ltb (freeBytes w) (4 + 4 * (openMarks (w .session .marks) + 1)) h)
 
 -- AN OPERATION WITH A KEY
--- the holder does not depend on who asks
-any-job : (job p′ : ℕ) (p : Procedure) (k : ℕ) (t : List ℕ) (us : List Op) → holder alone (begun job p k t) us ≡ holder alone (begun p′ p k t) us
-any-job job p′ p k t [] = refl
-any-job job p′ p k t (u ∷ us) = ap (cond (holds alone (begun job p k t) u) (some (u .job))) (any-job job p′ p k t us)
-
 module _ (w : World) (p : Procedure) (k : ℕ) where
   abbrev pub Meaning : Verdict → Type 0
   Meaning v = Means (length (w .tiles)) (length (w .operations)) (state w .book) p k v
@@ -93,27 +82,20 @@ module _ (w : World) (p : Procedure) (k : ℕ) where
   abbrev noBytes : Bool
   noBytes = ltb (freeBytes w) (10 + 4 * openMarks (w .session .marks))
 
-  same-holder : (job : ℕ) → heldBy alone (state w .book) job p k ≡ heldBy alone (state w .book) 0 p k
-  same-holder job = any-job job 0 p k (state w .book .tiles) (state w .book .table)
-
-  -- what the engine's verdict says of this world
-  pub judged : (v u : Verdict) → v ≡ verdictOf (length (w .tiles)) (length (w .operations)) (state w .book) p k → v ≡ u → Meaning u
-  judged v u is seen = subst Meaning (sym is ∙ seen) (verdict-means (length (w .tiles)) (length (w .operations)) (state w .book) p k)
-
   pub judges-held : (j : ℕ) → Meaning (Held j) → Judges w p k (Refuse (reply.Held j))
-  judges-held j h job = (λ t. rw (same-holder job, h), refl)
+  judges-held j h job = (λ t. rw (same-holder (state w .book) job p k, h), refl)
 
   pub judges-no-place : Meaning NoTileRoom → Judges w p k (Refuse reply.NoTileRoom)
-  judges-no-place h job = (λ t. rw (same-holder job, h .0, h .1), refl)
+  judges-no-place h job = (λ t. rw (same-holder (state w .book) job p k, h .0, h .1), refl)
 
   pub judges-no-slot : Meaning NoOperationRoom → Judges w p k (Refuse reply.NoOperationRoom)
-  judges-no-slot h job = (λ t. rw (same-holder job, h .0, h .1, h .2), refl)
+  judges-no-slot h job = (λ t. rw (same-holder (state w .book) job p k, h .0, h .1, h .2), refl)
 
   pub judges-no-bytes : Meaning Admitted → noBytes ≡ true → Judges w p k (Refuse reply.NoJournalRoom)
-  judges-no-bytes h n job = (λ t. rw (same-holder job, h .0, h .1, h .2, n), refl)
+  judges-no-bytes h n job = (λ t. rw (same-holder (state w .book) job p k, h .0, h .1, h .2, n), refl)
 
   pub judges-perform : Meaning Admitted → noBytes ≡ false → Judges w p k (Perform k)
-  judges-perform h n job = (rw (same-holder job, h .0, h .1, h .2, n), refl)
+  judges-perform h n job = (rw (same-holder (state w .book) job p k, h .0, h .1, h .2, n), refl)
 
 -- what a list with a number for each refusal decides, it decides whatever follows it
 gate-refuses : (rs : List Refusal) (t u : Told) → eqb (t .number) 0 ≡ true → eqb (decided rs t .number) 0 ≡ false → decided rs t ≡ decided rs u

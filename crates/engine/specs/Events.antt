@@ -1,5 +1,5 @@
--- An event that may happen on these tables, and the session after a job has ended
-use mathlib.Core.Bool.{false}
+-- An event that may happen on these tables, and the session after a job has opened or ended
+use mathlib.Core.Bool.{false, true}
 use mathlib.Core.Path.{_≡_}
 use Prim.Native.Nat.{ℕ}
 use lib.ListN.{length, set}
@@ -16,6 +16,9 @@ pub record Ready (w : World) (e : Event) : Type 0 where
   pub tabled : Tabled w
   pub named : Named e
   pub unrefused-by : refused (refusals (length (w .tiles)) (length (w .operations)) (state w) e) ≡ false
+
+abbrev pub opened : Session → ℕ → Session
+opened s job = record { marks = set (s .marks) job true; tiles = s .tiles; operations = s .operations; journal = s .journal }
 
 -- the job is closed, with these counts of tiles and operations
 abbrev pub closed : Session → ℕ → ℕ → ℕ → Session

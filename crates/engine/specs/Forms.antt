@@ -18,12 +18,13 @@ use Rattle.service.specs.Laws.Standing.{Stands, stands-perform}
 use Rattle.service.specs.Laws.Storing.{tabled-stands}
 use Rattle.service.specs.Sound.{Entry, Tabled}
 use Rattle.service.specs.World.{World, state, usedOperations, usedTiles, world}
+use Rattle.service.specs.declared.Session.{Session}
 use Rattle.strict.specs.Book.{others, recover}
 use Rattle.strict.specs.Histories.{Event, abort, commit, openJob, operation}
 use Rattle.strict.specs.Operations.{Op, apply, begun, clear, effect, kind, put, skip, undo}
 use Rattle.strict.specs.Tiles.{delete, insert, member}
 use Rattle.strict.specs.declared.Procedure.{Procedure}
-use Rattle.engine.specs.Events.{Ready, closed}
+use Rattle.engine.specs.Events.{Ready, closed, opened}
 use Rattle.engine.specs.Laws.{entry-table, operations-count, tile-table, tiles-count}
 use Rattle.engine.specs.Undoing.{recovered, undone}
 
@@ -71,9 +72,7 @@ module _ (w : World) (o : Tabled w) where
   same-operations : padded (length (w .operations)) (map entryOf (map opIn (usedOperations w))) ≡ w .operations
   same-operations = ap (padded (length (w .operations))) (entries-back (w .session .marks) (usedOperations w) (o .entries)) ∙ sym (entry-table w o .zeros-behind)
 
-  pub open-form : (job : ℕ) → holding w (perform (state w) (openJob job))
-      ≡ world (record { marks = set (w .session .marks) job true; tiles = w .session .tiles; operations = w .session .operations; journal = w .session .journal })
-      (w .tiles) (w .operations) (w .journal)
+  open-form : (job : ℕ) → holding w (perform (state w) (openJob job)) ≡ world (opened (w .session) job) (w .tiles) (w .operations) (w .journal)
   open-form job i =
       world (record { marks = set (w .session .marks) job true; tiles = tiles-count w o i; operations = operations-count w o i; journal = w .session .journal })
       (same-tiles i) (same-operations i) (w .journal)
@@ -90,7 +89,7 @@ module _ (w : World) (o : Tabled w) where
     others-count : length (others job (map opIn (usedOperations w))) ≡ length left
     others-count = ap length (sym (others-without job (usedOperations w))) ∙ length-map left opIn
 
-    pub commit-form : holding w (perform (state w) (commit job)) ≡ world (closed (w .session) job (w .session .tiles) (length left)) (w .tiles) (padded (length (w .operations)) left) (w .journal)
+    commit-form : holding w (perform (state w) (commit job)) ≡ world (closed (w .session) job (w .session .tiles) (length left)) (w .tiles) (padded (length (w .operations)) left) (w .journal)
     commit-form i =
         world (closed (w .session) job (tiles-count w o i) (others-count i)) (same-tiles i) (padded (length (w .operations)) (others-left i)) (w .journal)
 
@@ -156,3 +155,13 @@ module _ (w : World) (few : length (w .session .marks) ≡ 64) where
       → world (closed (w .session) job count left) tiles operations (w .journal) ≡ holding w (perform (state w) (abort job))
   aborted job r count left tiles operations a b c d =
       (λ i. world (closed (w .session) job (a i) (c i)) (b i) (d i) (w .journal)) ∙ sym (abort-form w (r .tabled) job)
+
+-- what an open and a commit leave
+module _ (w : World) (o : Tabled w) (job : ℕ) (s : Session) where
+  pub after-open : s ≡ opened (w .session) job → world s (w .tiles) (w .operations) (w .journal) ≡ holding w (perform (state w) (openJob job))
+  after-open is = ap (λ (x : Session). world x (w .tiles) (w .operations) (w .journal)) is ∙ sym (open-form w o job)
+
+  pub after-commit : (operations : List ℕ) → s ≡ closed (w .session) job (w .session .tiles) (length (withoutJob job (usedOperations w)))
+      → operations ≡ padded (length (w .operations)) (withoutJob job (usedOperations w))
+      → world s (w .tiles) operations (w .journal) ≡ holding w (perform (state w) (commit job))
+  after-commit operations is left = ap₂ {C = World} (λ (x : Session) (y : List ℕ). world x (w .tiles) y (w .journal)) is left ∙ sym (commit-form w o job)

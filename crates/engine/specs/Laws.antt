@@ -1,8 +1,8 @@
 -- What the tables of a sound world are, and what each verdict rests on
 use mathlib.Core.Bool.{Bool, _&&_, cond, false, true}
-use mathlib.Core.List.{map}
+use mathlib.Core.List.{List, [], _∷_, map}
 use mathlib.Core.Option.{Option, none, some}
-use mathlib.Core.Path.{_∙_, _≡_, refl}
+use mathlib.Core.Path.{_∙_, _≡_, ap, refl, subst, sym}
 use Prim.Native.Nat.{_+_, _≤_, ℕ}
 use lib.Dec.{eqb}
 use lib.ListN.{length, length-map}
@@ -14,14 +14,15 @@ use Rattle.service.specs.Laws.Storing.{padded-zeros}
 use Rattle.service.specs.Sound.{Tabled}
 use Rattle.service.specs.World.{World, state, usedOperations, usedTiles}
 use Rattle.strict.specs.Book.{Book, heldBy, needsPlace, spokenFor}
-use Rattle.strict.specs.Operations.{begun}
+use Rattle.strict.specs.Commutativity.{holder, holds}
+use Rattle.strict.specs.Operations.{Op, begun}
 use Rattle.strict.specs.Strict.{alone}
 use Rattle.strict.specs.declared.Procedure.{Procedure}
 use Rattle.tiles.specs.Laws.{zeros-table}
 use Rattle.tiles.specs.Table.{TileTable}
 use Rattle.engine.specs.Verdicts.{byHolder, verdictOf}
-use Rattle.engine.specs.declared.Verdict.{Verdict}
 use Rattle.engine.specs.declared.Verdict.the-variants.{Admitted, Held, NoOperationRoom, NoTileRoom}
+use Rattle.engine.specs.declared.Verdict.{Verdict}
 
 module _ (w : World) (o : Tabled w) where
   pub tile-table : TileTable (w .tiles) (w .session .tiles)
@@ -85,3 +86,14 @@ verdict-means places slots m p k = go (heldBy alone m 0 p k) refl (lacksPlace pl
     go none x true y b z = (x, y)
     go none x false y true z = (x, y, z)
     go none x false y false z = (x, y, z)
+
+pub verdict-seen : (places slots : ℕ) (m : Book) (p : Procedure) (k : ℕ) (v u : Verdict) → v ≡ verdictOf places slots m p k → v ≡ u → Means places slots m p k u
+verdict-seen places slots m p k v u is seen = subst (Means places slots m p k) (sym is ∙ seen) (verdict-means places slots m p k)
+
+-- the holder does not depend on who asks
+any-job : (job job′ : ℕ) (p : Procedure) (k : ℕ) (t : List ℕ) (us : List Op) → holder alone (begun job p k t) us ≡ holder alone (begun job′ p k t) us
+any-job job job′ p k t [] = refl
+any-job job job′ p k t (u ∷ us) = ap (cond (holds alone (begun job p k t) u) (some (u .job))) (any-job job job′ p k t us)
+
+pub same-holder : (m : Book) (job : ℕ) (p : Procedure) (k : ℕ) → heldBy alone m job p k ≡ heldBy alone m 0 p k
+same-holder m job p k = any-job job 0 p k (m .tiles) (m .table)

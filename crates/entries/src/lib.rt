@@ -1,7 +1,7 @@
 // The operations table: entries are made and taken apart here, gaps are closed, and the first holder is found.
 ghost use mathlib.Core.Path.{_≡_};
 ghost use Prim.Native.Nat.{_≤_};
-ghost use lib.ListN.{length, take};
+ghost use lib.ListN.{length, replicate, take};
 ghost use Rattle.service.specs.Calls.{padded};
 ghost use Rattle.service.specs.Entry.{packEntry, kindIn, jobIn, keyIn};
 ghost use Rattle.entries.specs.Table.{EntryTable, withoutJob, columnOf, holderPlace, countThree};
@@ -111,4 +111,15 @@ pub fn count_reserved(operations: &[u64], count: usize) -> usize
         i += 1;
     }
     reserved
+}
+
+// Sets every place of the operation table to 0.
+pub fn clear_all(operations: &mut [u64])
+    ensures { λ _. ⌜ now (operations .exit) ≡ replicate (length (now (operations .entry))) 0 ⌝ }
+{
+    let mut i: usize = 0;
+    while i < operations.len() {
+        operations[i] = 0;
+        i += 1;
+    }
 }

@@ -1,24 +1,17 @@
 // Runs the seam cases on the calls and prints every reply: its number, its answer and its holder.
 ghost use Prim.Native.Nat.{_≤_};
 ghost use lib.ListN.{length};
-use libc::STDOUT_FILENO;
 use service::Address;
 use service::Located;
 use service::Outcome;
 use service::Reply;
 use service::Session;
 use strict::Procedure;
+use terminal::print;
+use terminal::print_number;
 
 // The key of tile A.
 const A: u32 = 1073987589;
-
-fn print(text: &[u8]) {
-    io::write_all(STDOUT_FILENO, text);
-}
-
-fn print_number(n: u64) {
-    io::print_decimal(STDOUT_FILENO, n);
-}
 
 fn answer(reply: Reply) -> u8 {
     match reply {

@@ -2,17 +2,18 @@
 use mathlib.Core.List.{[]}
 use mathlib.Core.Path.{_≡_, sym}
 use Prim.Native.Nat.{_*_, _+_}
-use denote.Ref.{now}
 use borrow.Author.Needs.{needs}
 use borrow.Author.Tests.{le-ltb, lt-ltb}
-use Rattle.engine.specs.declared.Verdict.{Verdict}
+use denote.Ref.{now}
+use Rattle.engine.specs.Laws.{verdict-seen}
 use Rattle.engine.specs.declared.Verdict.the-variants.{Admitted, NoOperationRoom, NoTileRoom}
+use Rattle.engine.specs.declared.Verdict.{Verdict}
 use Rattle.service.specs.Admission.{openMarks}
 use Rattle.service.specs.Laws.Soundness.{retabled}
 use Rattle.service.specs.World.{World, world}
 use Rattle.decisions.proofs.judge.Statement.{statement}
-use Rattle.decisions.specs.Laws.{Meaning, judged, judges-held, judges-no-bytes, judges-no-place, judges-no-slot, judges-perform}
 use Rattle.decisions.proofs.judge.Tie as tie
+use Rattle.decisions.specs.Laws.{Meaning, judges-held, judges-no-bytes, judges-no-place, judges-no-slot, judges-perform}
 
 -- what the function was given
 abbrev given : tie.Start → World
@@ -21,7 +22,7 @@ given c = world (c .args .session) (now (c .args .tiles)) (now (c .args .operati
 -- what the engine's verdict says of it
 meaning : (c : tie.After-admit) (u : Verdict) → c .admit .result ≡ u
     → Meaning (given (c .before .before .before .before)) (c .before .before .before .before .args .procedure) (c .before .before .before .before .args .key) u
-meaning c u seen = judged (given (c .before .before .before .before)) _ _ _ u (c .admit .ensures) seen
+meaning c u seen = verdict-seen _ _ _ _ _ _ u (c .admit .ensures) seen
 
 admit-requires : tie.Need-admit-requires
 admit-requires c κs =

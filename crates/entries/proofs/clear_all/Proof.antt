@@ -1,4 +1,4 @@
--- `sanbirogu::clear_all` meets its contract: the places before i are 0
+-- `entries::clear_all` meets its contract: the places before i are 0
 use mathlib.Core.List.{List, [], _++_, _∷_}
 use mathlib.Core.Path.{_∙_, _≡_, ap, refl, sym}
 use Prim.Native.Nat.{_+_, _-_, _<_, _≤_, ℕ}
@@ -6,8 +6,8 @@ use native.Mathlib.Numerals.{add-one}
 use native.Mathlib.Omega.{arith}
 use lib.ListN.{length, length-set, replicate, replicate-append-replicate, set, take}
 use lib.Seq.{take-length, take-suc-set}
-use Rattle.sanbirogu.proofs.clear_all.Statement.{statement}
-use Rattle.sanbirogu.proofs.clear_all.Tie as tie
+use Rattle.entries.proofs.clear_all.Statement.{statement}
+use Rattle.entries.proofs.clear_all.Tie as tie
 
 one-more : (l : List ℕ) (i : ℕ) → i < length l → take i l ≡ replicate i 0 → take (i + 1) (set l i 0) ≡ replicate (i + 1) 0
 one-more l i h zeros = rw add-one (take-suc-set l i 0 h ∙ ap (λ r. r ++ (0 ∷ [])) zeros) ∙ replicate-append-replicate i 1 0

@@ -1,0 +1,52 @@
+// What the programs share: all of standard input, and text and numbers on standard output.
+ghost use Prim.Native.Nat.{_-_, _≤_};
+ghost use lib.ListN.{length};
+ghost use Rattle.terminal.specs.Input.{Within};
+use libc::STDIN_FILENO;
+use libc::STDOUT_FILENO;
+
+// What was read: so many bytes, or nothing, because reading failed.
+pub enum Input {
+    Bytes(usize),
+    Unreadable,
+}
+
+pub fn print(text: &[u8]) {
+    io::write_all(STDOUT_FILENO, text);
+}
+
+pub fn print_number(n: u64) {
+    io::print_decimal(STDOUT_FILENO, n);
+}
+
+// One read into the places from `from` on.
+fn read_some(space: &mut [u8], from: usize) -> Input
+    requires { ⌜ from ≤ length (now space) ⌝ }
+    ensures { λ r. ⌜ Within r (length (now (space .entry)) - from) ⌝ }
+{
+    let rest = &mut space[from..];
+    let got = libc::read(STDIN_FILENO, rest);
+    if got < 0 {
+        return Input::Unreadable;
+    }
+    Input::Bytes(io::count(got, rest))
+}
+
+// Reads until the input ends or the space is full. Answers how many bytes came.
+pub fn read_all(space: &mut [u8]) -> Input
+    ensures { λ r. ⌜ Within r (length (now (space .exit))) ⌝ }
+{
+    let mut used: usize = 0;
+    while used < space.len() {
+        match read_some(space, used) {
+            Input::Unreadable => return Input::Unreadable,
+            Input::Bytes(n) => {
+                if n == 0 {
+                    return Input::Bytes(used);
+                }
+                used += n;
+            }
+        }
+    }
+    Input::Bytes(used)
+}
