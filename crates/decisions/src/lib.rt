@@ -38,6 +38,42 @@ pub fn number(reply: Reply) -> u8
     }
 }
 
+// Its answer: 1 for ok, and 0 for fail and wherever there is none.
+pub fn answer(reply: Reply) -> u8
+    ensures { λ r. ⌜ r ≡ told reply .answer ⌝ }
+{
+    match reply {
+        Reply::Done(ok) => ok as u8,
+        Reply::NotSound => 0,
+        Reply::NoSuchJob => 0,
+        Reply::NotOpen => 0,
+        Reply::AlreadyOpen => 0,
+        Reply::OutOfRange => 0,
+        Reply::Held(_) => 0,
+        Reply::NoTileRoom => 0,
+        Reply::NoOperationRoom => 0,
+        Reply::NoJournalRoom => 0,
+    }
+}
+
+// The job that holds, and 0 wherever there is none.
+pub fn holder(reply: Reply) -> u8
+    ensures { λ r. ⌜ r ≡ told reply .holder ⌝ }
+{
+    match reply {
+        Reply::Done(_) => 0,
+        Reply::NotSound => 0,
+        Reply::NoSuchJob => 0,
+        Reply::NotOpen => 0,
+        Reply::AlreadyOpen => 0,
+        Reply::OutOfRange => 0,
+        Reply::Held(job) => job,
+        Reply::NoTileRoom => 0,
+        Reply::NoOperationRoom => 0,
+        Reply::NoJournalRoom => 0,
+    }
+}
+
 // Whether a reply says that the call is carried out.
 pub fn accepted(reply: Reply) -> bool
     ensures { λ r. ⌜ r ≡ eqb (told reply .number) 0 ⌝ }

@@ -117,9 +117,9 @@ pub fn count_reserved(operations: &[u64], count: usize) -> usize
 pub fn clear_all(operations: &mut [u64])
     ensures { λ _. ⌜ now (operations .exit) ≡ replicate (length (now (operations .entry))) 0 ⌝ }
 {
-    let mut i: usize = 0;
-    while i < operations.len() {
-        operations[i] = 0;
-        i += 1;
+    let mut place: usize = 0;
+    while place < operations.len() {
+        operations[place] = 0;
+        place += 1;
     }
 }

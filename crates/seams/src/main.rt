@@ -13,27 +13,13 @@ use terminal::print_number;
 // The key of tile A.
 const A: u32 = 1073987589;
 
-fn answer(reply: Reply) -> u8 {
-    match reply {
-        Reply::Done(ok) => ok as u8,
-        _ => 0,
-    }
-}
-
-fn holder(reply: Reply) -> u8 {
-    match reply {
-        Reply::Held(job) => job,
-        _ => 0,
-    }
-}
-
 fn print_reply(reply: Reply) {
     print(b" -> ");
     print_number(decisions::number(reply) as u64);
     print(b" answer ");
-    print_number(answer(reply) as u64);
+    print_number(decisions::answer(reply) as u64);
     print(b" holder ");
-    print_number(holder(reply) as u64);
+    print_number(decisions::holder(reply) as u64);
     print(b"\n");
 }
 
