@@ -1,0 +1,197 @@
+//! The console: each line of text is a command, and each is answered by one line.
+
+use crate::journal::{Reader, Reading, Record};
+use crate::line::{parse, Command};
+use crate::replay::replay;
+use crate::reply::{numbers, Reply};
+use crate::service::{self, Address};
+use crate::session::{length_of, Session, Tables};
+
+/// The most input the program takes: 1 MiB.
+pub const MOST_INPUT: usize = 1_048_576;
+
+const MOST_LENT: (u32, u32, u32) = (5000, 1200, 66_000);
+const SUM_MODULUS: u64 = 4_294_967_291;
+
+#[derive(Clone, Debug)]
+pub struct Console {
+    pub session: Session,
+    pub tables: Tables,
+}
+
+/// All answers to an input.
+pub fn answers(input: &[u8]) -> Vec<u8> {
+    if input.len() > MOST_INPUT {
+        return b"too long\n".to_vec();
+    }
+    let mut console = Console::new();
+    let mut output = Vec::new();
+    // What stands after the last line feed is not a line.
+    let lines = input.split_inclusive(|byte| *byte == b'\n');
+    for line in lines.filter_map(|line| line.strip_suffix(b"\n")) {
+        output.extend_from_slice(console.answer(line).as_bytes());
+        output.push(b'\n');
+    }
+    output
+}
+
+impl Default for Console {
+    fn default() -> Console {
+        Console::new()
+    }
+}
+
+impl Console {
+    pub fn new() -> Console {
+        Console {
+            session: Session::empty(),
+            tables: Tables::default(),
+        }
+    }
+
+    /// The answer to one line, without its line feed.
+    pub fn answer(&mut self, line: &[u8]) -> String {
+        let answer = parse(line).and_then(|command| self.obey(command));
+        answer.unwrap_or_else(|| "?".to_string())
+    }
+
+    /// Does what the command says; none where it names something that is not lent.
+    fn obey(&mut self, command: Command) -> Option<String> {
+        match command {
+            Command::Lend(tiles, operations, journal) => self.lend(tiles, operations, journal),
+            Command::Address(address) => Some(address_line(address)),
+            Command::Read(place) => Some(self.read(length_of(place))),
+            Command::Replay(count, length) => self.replay(count, length_of(length)),
+            Command::Sum => Some(format!("sum {}", self.sum())),
+            _ => match self.call(command) {
+                Some(reply) => Some(reply_line(reply)),
+                None => self.change(command).map(|_| "ok".to_string()),
+            },
+        }
+    }
+
+    fn lend(&mut self, tiles: u32, operations: u32, journal: u32) -> Option<String> {
+        let (most_tiles, most_operations, most_journal) = MOST_LENT;
+        if tiles > most_tiles || operations > most_operations || journal > most_journal {
+            return None;
+        }
+        self.session = Session::empty();
+        self.tables = Tables::lent(length_of(tiles), length_of(operations), length_of(journal));
+        Some(format!("lent {} {} {}", tiles, operations, journal))
+    }
+
+    /// The calls that are answered by a reply; none for any other command.
+    fn call(&mut self, command: Command) -> Option<Reply> {
+        let (session, tables) = (&mut self.session, &mut self.tables);
+        match command {
+            Command::Start(count) => {
+                let (started, reply) = service::start(tables, count);
+                *session = started;
+                Some(reply)
+            }
+            Command::Open(job) => Some(service::open(session, tables, job)),
+            Command::Operate(job, procedure, address) => {
+                let reply = service::operate(session, tables, job, procedure, address);
+                Some(reply)
+            }
+            Command::Commit(job) => Some(service::commit(session, tables, job)),
+            Command::Abort(job) => Some(service::abort(session, tables, job)),
+            _ => None,
+        }
+    }
+
+    /// Changes from outside; none for a place that is not lent.
+    fn change(&mut self, command: Command) -> Option<()> {
+        let tables = &mut self.tables;
+        match command {
+            Command::PutTile(place, key) => *tables.tiles.get_mut(length_of(place))? = key,
+            Command::PutEntry(place, entry) => {
+                *tables.operations.get_mut(length_of(place))? = entry
+            }
+            Command::PutByte(place, byte) => *tables.journal.get_mut(length_of(place))? = byte,
+            Command::SetTiles(count) => self.session.tiles = count,
+            Command::SetOperations(count) => self.session.operations = count,
+            Command::SetJournal(count) => self.session.journal = count,
+            Command::Mark(job, bit) if bit <= 1 => {
+                *self.session.open.get_mut(usize::from(job))? = bit == 1
+            }
+            _ => return None,
+        }
+        Some(())
+    }
+
+    /// The session's journal: its used bytes, or all where the count is larger.
+    pub fn used_journal(&self) -> &[u8] {
+        let journal = &self.tables.journal;
+        let used = length_of(self.session.journal);
+        journal.get(..used).unwrap_or(journal)
+    }
+
+    fn read(&self, place: usize) -> String {
+        let mut reader = Reader::at(self.used_journal(), place);
+        let reading = reader.read();
+        let next = reader.place();
+        match reading {
+            Reading::Whole(record) => format!("{} next {}", record_text(record), next),
+            Reading::End => "end".to_string(),
+            Reading::Cut => "cut".to_string(),
+            Reading::Malformed => format!("reply 10 offset {}", next),
+        }
+    }
+
+    fn replay(&mut self, count: u32, length: usize) -> Option<String> {
+        let journal = self.tables.journal.get(..length)?;
+        let tiles = &mut self.tables.tiles;
+        let replayed = replay(journal, tiles, count, &mut self.tables.operations);
+        Some(format!(
+            "reply {} offset {} undone {} count {}",
+            replayed.reply, replayed.offset, replayed.undone, replayed.count
+        ))
+    }
+
+    fn sum(&self) -> u64 {
+        let session = &self.session;
+        let marks = session.open.iter().map(|mark| u64::from(*mark));
+        let counts = [session.tiles, session.operations, session.journal];
+        let tiles = self.tables.tiles.iter().map(|key| u64::from(*key));
+        let entries = self.tables.operations.iter().copied();
+        let bytes = self.tables.journal.iter().map(|byte| u64::from(*byte));
+        marks
+            .chain(counts.iter().map(|count| u64::from(*count)))
+            .chain(tiles)
+            .chain(entries)
+            .chain(bytes)
+            .fold(0, |sum, number| {
+                (sum * 31 + number % SUM_MODULUS) % SUM_MODULUS
+            })
+    }
+}
+
+fn reply_line(reply: Reply) -> String {
+    let (number, answer, holder) = numbers(reply);
+    format!("reply {} answer {} holder {}", number, answer, holder)
+}
+
+fn address_line(address: Address) -> String {
+    match service::address_key(address) {
+        Ok(key) => format!("reply 0 key {}", key),
+        Err(refusal) => format!("reply {} key 0", refusal.number()),
+    }
+}
+
+fn record_text(record: Record) -> String {
+    match record {
+        Record::Open(job) => format!("open {}", job),
+        Record::Operation {
+            job,
+            procedure,
+            ok,
+            tile,
+        } => {
+            let (procedure, answer) = (procedure.number(), u8::from(ok));
+            format!("operation {} {} {} {}", job, procedure, answer, tile.key())
+        }
+        Record::Commit(job) => format!("commit {}", job),
+        Record::Abort(job) => format!("abort {}", job),
+    }
+}

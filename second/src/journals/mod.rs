@@ -1,0 +1,48 @@
+//! Random journals: whole, cut, damaged, spliced, refused and too long. A seed gives always the
+//! same journal.
+
+mod altered;
+mod large;
+mod walk;
+
+use crate::random::Random;
+
+/// Every kind of journal comes in its turn, so that each is met often.
+pub fn journal(seed: u64) -> Vec<u8> {
+    let mut random = Random::seeded(seed);
+    let random = &mut random;
+    match seed % 20 {
+        0 => walk::bytes_of(&walk::short_walk(random)),
+        1 => altered::cut(random),
+        2..=6 => altered::damaged(random),
+        7 => altered::with_wrong_tail(random),
+        8 => altered::spliced(random),
+        9 => altered::noise(random),
+        10 | 11 => altered::with_strangers(random),
+        12 | 13 => altered::with_wrong_answer(random),
+        14 => altered::refused_and_wrong(random),
+        15 => altered::with_strangers_and_damage(random),
+        16 => large::long(random),
+        17 => large::of_edge_length(random),
+        18 => large::too_many_tiles(random),
+        _ => large::too_many_operations(random),
+    }
+}
+
+/// Bytes of the longest journal that a script puts down byte by byte.
+const SHORT: usize = 240;
+
+/// A short journal with anything wrong in it, or nothing.
+pub fn short_journal(random: &mut Random) -> Vec<u8> {
+    let mut journal = match random.below(8) {
+        0 => altered::cut(random),
+        1 => altered::damaged(random),
+        2 => altered::with_wrong_tail(random),
+        3 => altered::spliced(random),
+        4 => altered::with_strangers(random),
+        5 => altered::with_wrong_answer(random),
+        _ => walk::bytes_of(&walk::short_walk(random)),
+    };
+    journal.truncate(SHORT);
+    journal
+}

@@ -1,0 +1,125 @@
+//! Few tiles with many spellings, most of them where the world closes.
+
+use crate::random::Random;
+use crate::service::Address;
+use crate::tile::Tile;
+
+const SEAM_COLUMNS: [i32; 12] = [
+    -1,
+    0,
+    15,
+    16,
+    -16,
+    -17,
+    31,
+    1,
+    i32::MIN,
+    i32::MAX,
+    i32::MIN + 15,
+    i32::MAX - 15,
+];
+
+const ZOOMS: [u8; 12] = [4, 4, 4, 4, 4, 5, 6, 7, 9, 11, 13, 14];
+
+/// The addresses one episode speaks of.
+pub struct Pool {
+    addresses: Vec<Address>,
+}
+
+fn last_row(zoom: u8) -> i32 {
+    (1 << zoom) - 1
+}
+
+fn edge_column(random: &mut Random, zoom: u8) -> i32 {
+    let side = last_row(zoom) + 1;
+    match random.below(6) {
+        0 => side - 1,
+        1 => side,
+        2 => -side,
+        _ => random.pick(&SEAM_COLUMNS),
+    }
+}
+
+fn any_served(random: &mut Random) -> Address {
+    let zoom = random.pick(&ZOOMS);
+    let row = match random.below(4) {
+        0 => 0,
+        1 => last_row(zoom),
+        _ => 5,
+    };
+    let column = edge_column(random, zoom);
+    Address { zoom, column, row }
+}
+
+/// Any column and any row of any level.
+pub fn anywhere(random: &mut Random) -> Address {
+    let zoom = random.pick(&[4, 5, 6, 7, 8, 9, 10, 11, 12, 13, 14]);
+    let row = i32::try_from(random.below(1 << zoom)).unwrap_or(0);
+    let column = random.word() as i32;
+    Address { zoom, column, row }
+}
+
+/// An address that is refused by its zoom, its row or both.
+pub fn refused(random: &mut Random) -> Address {
+    let mut address = any_served(random);
+    let wrong = random.below(5);
+    if wrong != 0 {
+        let side = last_row(address.zoom) + 1;
+        address.row = random.pick(&[-1, side, side + 1, 16_384, i32::MIN, i32::MAX]);
+    }
+    if wrong <= 1 {
+        address.zoom = random.pick(&[0, 1, 3, 15, 16, 31, 32, 36, 255]);
+    }
+    address
+}
+
+impl Pool {
+    /// A pool that names few tiles: one or two addresses, and the same rows all round the seam.
+    pub fn few(random: &mut Random) -> Pool {
+        let first = any_served(random);
+        let mut addresses = vec![first];
+        for _ in 0..random.between(1, 5) {
+            let column = edge_column(random, first.zoom);
+            addresses.push(Address { column, ..first });
+        }
+        if random.one_in(2) {
+            addresses.push(any_served(random));
+        }
+        Pool { addresses }
+    }
+
+    /// Mostly one of the pool, now and then one that is refused or a stray one.
+    pub fn any(&self, random: &mut Random) -> Address {
+        match random.below(24) {
+            0 => refused(random),
+            1 => any_served(random),
+            2 => anywhere(random),
+            _ => random.pick(&self.addresses),
+        }
+    }
+
+    /// The tiles the pool names, in order.
+    pub fn tiles(&self) -> Vec<Tile> {
+        let named = self.addresses.iter();
+        let mut tiles: Vec<Tile> = named
+            .filter_map(|address| Tile::at(address.zoom, address.column, address.row))
+            .collect();
+        tiles.sort();
+        tiles.dedup();
+        tiles
+    }
+
+    /// A random part of the tiles the pool names.
+    pub fn some_tiles(&self, random: &mut Random) -> Vec<Tile> {
+        let mut tiles = self.tiles();
+        tiles.retain(|_| random.one_in(2));
+        tiles
+    }
+}
+
+/// The n-th tile of a long ascending run, for filling tables.
+pub fn nth_tile(n: usize) -> Option<Tile> {
+    let column = i32::try_from(n / 64).ok()?;
+    let row = i32::try_from(n % 64).ok()?;
+    Tile::at(7, column, row)
+}

@@ -1,0 +1,207 @@
+//! Lines that are almost commands.
+
+use crate::random::Random;
+use crate::scripts::writer::Writer;
+
+#[derive(Clone, Copy)]
+enum Type {
+    Small,
+    Signed,
+    Count,
+    Entry,
+}
+
+use Type::{Count, Entry, Signed, Small};
+
+type Form = (&'static str, &'static [Type]);
+
+const FORMS: [Form; 19] = [
+    ("lend", &[Count, Count, Count]),
+    ("start", &[Count]),
+    ("open", &[Small]),
+    ("ins", &[Small, Small, Signed, Signed]),
+    ("del", &[Small, Small, Signed, Signed]),
+    ("mem", &[Small, Small, Signed, Signed]),
+    ("commit", &[Small]),
+    ("abort", &[Small]),
+    ("address", &[Small, Signed, Signed]),
+    ("read", &[Count]),
+    ("replay", &[Count, Count]),
+    ("sum", &[]),
+    ("tile", &[Count, Count]),
+    ("entry", &[Count, Entry]),
+    ("byte", &[Count, Small]),
+    ("tiles", &[Count]),
+    ("operations", &[Count]),
+    ("journal", &[Count]),
+    ("mark", &[Small, Small]),
+];
+
+const UNKNOWN_WORDS: [&str; 12] = [
+    "Open", "OPEN", "opens", "ope", "insert", "help", "quit", "summ", "su", "tile1", "-", "?",
+];
+
+const ODD_NUMBERS: [&str; 22] = [
+    "",
+    "-",
+    "+",
+    "+1",
+    "-0",
+    "--1",
+    "00",
+    "01",
+    "-01",
+    "007",
+    "0x1",
+    "1e3",
+    "1.0",
+    "1_0",
+    "1,0",
+    " 1",
+    "a",
+    "1a",
+    "-1",
+    "-2147483648",
+    "\u{661}",
+    "\u{0}",
+];
+
+/// A number just outside the type, or far outside.
+fn beyond(random: &mut Random, kind: Type) -> &'static str {
+    match kind {
+        Small => random.pick(&["256", "257", "1000", "-1", "4294967296"]),
+        Signed => random.pick(&[
+            "2147483648",
+            "-2147483649",
+            "4294967295",
+            "4294967296",
+            "-9223372036854775808",
+            "18446744073709551616",
+        ]),
+        Count => random.pick(&["4294967296", "4294967297", "-1", "18446744073709551616"]),
+        Entry => random.pick(&[
+            "18446744073709551616",
+            "18446744073709551617",
+            "36893488147419103232",
+            "-1",
+        ]),
+    }
+}
+
+/// A number of the type, small so that nothing large is lent by accident.
+fn within(random: &mut Random, kind: Type) -> String {
+    match kind {
+        Small | Count => random.below(4).to_string(),
+        Signed => random.pick(&["0", "-1", "5", "15", "16"]).to_string(),
+        Entry => random.number().to_string(),
+    }
+}
+
+fn joined(word: &str, numbers: &[String]) -> String {
+    let mut line = word.to_string();
+    for number in numbers {
+        line.push(' ');
+        line.push_str(number);
+    }
+    line
+}
+
+pub fn bad_line(writer: &mut Writer) -> Vec<u8> {
+    match writer.random.below(8) {
+        0 => place_not_lent(writer).into_bytes(),
+        1 => odd_bytes(&mut writer.random),
+        2..=4 => wrong_number(&mut writer.random).into_bytes(),
+        _ => wrong_shape(&mut writer.random).into_bytes(),
+    }
+}
+
+fn some_form(random: &mut Random) -> (&'static str, Vec<Type>, Vec<String>) {
+    let (word, types) = random.pick(&FORMS);
+    let numbers = types.iter().map(|kind| within(random, *kind)).collect();
+    (word, types.to_vec(), numbers)
+}
+
+/// One number is out of its type, spelled in an odd way, or very long.
+fn wrong_number(random: &mut Random) -> String {
+    let (word, types, mut numbers) = some_form(random);
+    let place = random.below(types.len());
+    let wrong = match (types.get(place), random.below(8)) {
+        (None, _) => "0".to_string(),
+        (Some(Signed), 0..=1) => random.pick(&["-0", "-00", "-01", "-", "+0"]).to_string(),
+        (Some(kind), 0..=3) => beyond(random, *kind).to_string(),
+        (Some(_), 4) => "9".repeat(random.pick(&[11, 20, 21, 40, 300, 5000])),
+        (Some(_), 5) => "0".repeat(random.between(2, 30)),
+        (Some(_), _) => random.pick(&ODD_NUMBERS).to_string(),
+    };
+    match numbers.get_mut(place) {
+        Some(number) => *number = wrong,
+        None => numbers.push(wrong),
+    }
+    joined(word, &numbers)
+}
+
+/// The numbers may be right, but there are too few or too many, or what stands between is wrong.
+fn wrong_shape(random: &mut Random) -> String {
+    let (word, _, mut numbers) = some_form(random);
+    let line = joined(word, &numbers);
+    match random.below(13) {
+        0 => String::new(),
+        1 => joined(random.pick(&UNKNOWN_WORDS), &numbers),
+        2 => {
+            numbers.pop();
+            joined(word, &numbers)
+        }
+        3 => line + " 0",
+        4 => line + &" 1".repeat(random.between(2, 6)),
+        5 => line.replacen(' ', "  ", 1),
+        6 => " ".to_string() + &line,
+        7 => line + " ",
+        8 => line.replacen(' ', "\t", 1),
+        9 => line + random.pick(&["\t", "\r", "\u{b}", "\u{0}", ".", ";", "#"]),
+        10 => line.to_uppercase(),
+        11 => " ".repeat(random.between(1, 5)),
+        _ => (line + " ").repeat(random.pick(&[2, 3, 100, 1000])),
+    }
+}
+
+/// A byte that belongs into no line stands in it, or in the place of another.
+fn odd_bytes(random: &mut Random) -> Vec<u8> {
+    let (word, _, numbers) = some_form(random);
+    let mut line = joined(word, &numbers).into_bytes();
+    let place = random.below(line.len());
+    let stray = match random.byte() {
+        byte if byte == b'\n' || byte.is_ascii_digit() => b'\r',
+        byte => byte,
+    };
+    let odd = random.pick(&[0xFF, 0x80, 0xC3, 0x00, 0x7F, b'\r', stray]);
+    if random.one_in(2) {
+        line.insert(place, odd);
+    } else {
+        line[place] = odd;
+    }
+    line
+}
+
+/// The first place that is not lent, or a job, bit or length that the command does not take.
+fn place_not_lent(writer: &mut Writer) -> String {
+    let tables = &writer.console.tables;
+    let (tiles, operations, journal) = (
+        tables.tiles.len(),
+        tables.operations.len(),
+        tables.journal.len(),
+    );
+    match writer.random.below(12) {
+        0 => format!("tile {} 0", tiles),
+        1 => format!("entry {} 0", operations),
+        2 => format!("byte {} 0", journal),
+        3 => "tile 4294967295 1".to_string(),
+        4 => "entry 4294967295 1".to_string(),
+        5 => "byte 4294967295 1".to_string(),
+        6 => "mark 64 0".to_string(),
+        7 => "mark 0 2".to_string(),
+        8 => format!("replay 0 {}", journal + 1),
+        9 => "lend 5001 1 1".to_string(),
+        10 => "lend 1 1201 1".to_string(),
+        _ => "lend 1 1 66001".to_string(),
+    }
+}

@@ -1,0 +1,120 @@
+//! Damage to sound tables: one rule of soundness at a time, and its repair.
+
+use crate::scripts::addresses::Pool;
+use crate::scripts::calls;
+use crate::scripts::writer::Writer;
+use crate::scripts::wrong_entries;
+use crate::scripts::wrong_tiles;
+use crate::session::length_of;
+use crate::soundness::{Rule, RULES};
+
+/// Lines that break a rule, and lines that mend it again.
+#[derive(Default)]
+pub struct Damage {
+    breaking: Vec<String>,
+    mending: Vec<String>,
+}
+
+impl Damage {
+    pub fn one(breaking: String, mending: String) -> Damage {
+        Damage::default().and(breaking, mending)
+    }
+
+    pub fn and(mut self, breaking: String, mending: String) -> Damage {
+        self.breaking.push(breaking);
+        self.mending.push(mending);
+        self
+    }
+}
+
+/// Breaks a rule, makes some calls, mends it, and makes some more.
+pub fn break_a_rule(writer: &mut Writer, pool: &Pool) {
+    let rule = writer.random.pick(&RULES);
+    let damage = match damage_to(writer, rule, pool) {
+        None => return,
+        Some(damage) => damage,
+    };
+    for line in &damage.breaking {
+        writer.tell(line);
+    }
+    if rule == Rule::JournalCount {
+        calls::read_here_and_there(writer, 4);
+    }
+    let refused_calls = writer.random.between(1, 4);
+    calls::run(writer, pool, refused_calls);
+    for line in damage.mending.iter().rev() {
+        writer.tell(line);
+    }
+    calls::run(writer, pool, 2);
+}
+
+/// None where the tables as they stand give no occasion, and for lengths, which are lent so.
+fn damage_to(writer: &mut Writer, rule: Rule, pool: &Pool) -> Option<Damage> {
+    match rule {
+        Rule::TileLength | Rule::OperationLength | Rule::JournalLength => None,
+        Rule::TileCount => Some(pass_length(writer, "tiles")),
+        Rule::OperationCount => Some(pass_length(writer, "operations")),
+        Rule::JournalCount => Some(pass_length(writer, "journal")),
+        Rule::TileKey => wrong_tiles::wrong_key(writer),
+        Rule::TileOrder => wrong_tiles::wrong_order(writer),
+        Rule::TileRest => {
+            let used = length_of(writer.console.session.tiles);
+            let length = writer.console.tables.tiles.len();
+            wrong_rest(writer, "tile", used, length)
+        }
+        Rule::EntryRest => {
+            let used = length_of(writer.console.session.operations);
+            let length = writer.console.tables.operations.len();
+            wrong_rest(writer, "entry", used, length)
+        }
+        Rule::EntryKind | Rule::EntryJob | Rule::EntryKey => {
+            wrong_entries::wrong_part(writer, rule)
+        }
+        Rule::AddedIsPresent => wrong_entries::other_kind(writer, 1),
+        Rule::RemovedIsAbsent => wrong_entries::other_kind(writer, 3),
+        Rule::NothingLater => wrong_entries::later_entry(writer),
+        Rule::TileRoom => wrong_entries::one_removed_too_many(writer, pool),
+        Rule::JournalRoom => too_little_journal(writer),
+    }
+}
+
+fn pass_length(writer: &mut Writer, word: &str) -> Damage {
+    let (session, tables) = (&writer.console.session, &writer.console.tables);
+    let (count, length) = match word {
+        "tiles" => (session.tiles, tables.tiles.len()),
+        "operations" => (session.operations, tables.operations.len()),
+        _ => (session.journal, tables.journal.len()),
+    };
+    let far = writer.random.pick(&[65_537, 2_147_483_648, 4_294_967_295]);
+    let wrong = writer
+        .random
+        .pick(&[length + 1, length + 1, length + 2, far]);
+    Damage::one(format!("{} {}", word, wrong), format!("{} {}", word, count))
+}
+
+/// A number in one of the places that are not used.
+fn wrong_rest(writer: &mut Writer, word: &str, used: usize, length: usize) -> Option<Damage> {
+    if used >= length {
+        return None;
+    }
+    let middle = used + (length - used) / 2;
+    let place = writer.random.pick(&[used, middle, length - 1]);
+    let wrong = writer.random.pick(&[1u64, 1_073_741_824, 4_026_531_839]);
+    Some(Damage::one(
+        format!("{} {} {}", word, place, wrong),
+        format!("{} {} 0", word, place),
+    ))
+}
+
+fn too_little_journal(writer: &mut Writer) -> Option<Damage> {
+    let open = writer.open_jobs().len();
+    let length = writer.console.tables.journal.len();
+    let used = writer.console.session.journal;
+    // The last count that is right is tried as well.
+    let most = length.checked_sub(4 * open)?;
+    let wrong = (most + writer.random.pick(&[0, 1, 1, 2, 4])).min(length);
+    Some(Damage::one(
+        format!("journal {}", wrong),
+        format!("journal {}", used),
+    ))
+}

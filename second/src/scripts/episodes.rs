@@ -1,0 +1,193 @@
+//! Episodes: each lends its own tables and has its own matter.
+
+use crate::scripts::addresses::Pool;
+use crate::scripts::bad_lines;
+use crate::scripts::calls;
+use crate::scripts::damage;
+use crate::scripts::filling;
+use crate::scripts::nowhere;
+use crate::scripts::replays;
+use crate::scripts::wild;
+use crate::scripts::writer::Writer;
+
+pub fn episode(writer: &mut Writer) {
+    match writer.random.below(600) {
+        0..=129 => side_by_side(writer),
+        130..=194 => small_journal(writer),
+        195..=289 => from_nowhere(writer),
+        290..=394 => broken_rules(writer),
+        395..=434 => wild_damage(writer),
+        435..=479 => replays::episode(writer),
+        480..=514 => replays::foreign_journal(writer),
+        515..=564 => limits(writer),
+        565..=574 => only_bad_lines(writer),
+        575..=581 => crowd(writer),
+        582..=592 => filling::fill_middle_tables(writer),
+        593..=595 => filling::fill_journal_from_outside(writer),
+        596..=597 => filling::fill_operations_from_outside(writer),
+        _ => filling::fill_tiles_from_outside(writer),
+    }
+}
+
+/// Lends small tables and starts on some tiles of the pool.
+fn start_small(writer: &mut Writer, pool: &Pool, journal: usize) {
+    let tiles = writer.random.pick(&[1, 1, 2, 2, 3, 4, 8]);
+    let operations = writer.random.pick(&[1, 2, 3, 4, 6, 10, 16]);
+    writer.lend(tiles, operations, journal);
+    let starting = pool.some_tiles(&mut writer.random);
+    let count = writer.put_tiles(starting);
+    writer.tell(format!("start {}", count));
+}
+
+/// Jobs side by side on few tiles.
+fn side_by_side(writer: &mut Writer) {
+    let pool = Pool::few(&mut writer.random);
+    let journal = writer.random.pick(&[120, 300, 800]);
+    start_small(writer, &pool, journal);
+    let calls = writer.random.between(15, 60);
+    calls::run(writer, &pool, calls);
+    if writer.random.one_in(4) {
+        calls::read_everywhere(writer);
+    }
+}
+
+/// A journal that is full before anything else is.
+fn small_journal(writer: &mut Writer) {
+    let pool = Pool::few(&mut writer.random);
+    let journal = writer.random.below(70);
+    start_small(writer, &pool, journal);
+    calls::run(writer, &pool, 20);
+    // A new start leaves the older bytes behind the used ones.
+    let tiles = writer.console.session.tiles;
+    writer.tell(format!("start {}", tiles));
+    calls::run(writer, &pool, 5);
+    calls::read_everywhere(writer);
+}
+
+/// Every job is opened, as far as the journal reaches, and most of them end again.
+fn crowd(writer: &mut Writer) {
+    let pool = Pool::few(&mut writer.random);
+    let journal = writer.random.pick(&[500, 511, 512, 513, 540, 900]);
+    start_small(writer, &pool, journal);
+    for job in 0..64 {
+        writer.tell(format!("open {}", job));
+    }
+    calls::run(writer, &pool, 20);
+    for job in 0..60 {
+        let word = writer.random.pick(&["commit", "abort"]);
+        writer.tell(format!("{} {}", word, job));
+    }
+    calls::run(writer, &pool, 10);
+}
+
+fn from_nowhere(writer: &mut Writer) {
+    let pool = Pool::few(&mut writer.random);
+    nowhere::put_sound_session(writer, &pool);
+    let calls = writer.random.between(5, 25);
+    calls::run(writer, &pool, calls);
+    if writer.random.one_in(4) {
+        calls::read_everywhere(writer);
+    }
+}
+
+/// Sound tables, with one rule after the other broken and mended.
+fn broken_rules(writer: &mut Writer) {
+    let pool = Pool::few(&mut writer.random);
+    match writer.random.below(6) {
+        0 => start_small(writer, &pool, 200),
+        1 => {
+            start_small(writer, &pool, 200);
+            calls::run(writer, &pool, 12);
+        }
+        _ => nowhere::put_sound_session(writer, &pool),
+    }
+    for _ in 0..writer.random.between(3, 12) {
+        damage::break_a_rule(writer, &pool);
+    }
+    starts(writer);
+}
+
+/// Starts with wrong counts, then with the right one, on the tile table as it stands.
+fn starts(writer: &mut Writer) {
+    let tiles = &writer.console.tables.tiles;
+    let used = tiles.iter().take_while(|key| **key != 0).count();
+    let wrong = [
+        used + 1,
+        used.saturating_sub(1),
+        tiles.len() + 1,
+        4_294_967_295,
+    ];
+    for _ in 0..2 {
+        let count = writer.random.pick(&wrong);
+        writer.tell(format!("start {}", count));
+        writer.look();
+    }
+    calls::some_calls(writer, 2);
+    writer.tell(format!("start {}", used));
+    calls::some_calls(writer, 3);
+}
+
+fn wild_damage(writer: &mut Writer) {
+    let pool = Pool::few(&mut writer.random);
+    start_small(writer, &pool, 150);
+    for _ in 0..writer.random.between(2, 10) {
+        calls::run(writer, &pool, 4);
+        wild::put_numbers_anywhere(writer, &pool);
+        calls::run(writer, &pool, 2);
+        if writer.random.one_in(2) {
+            starts(writer);
+        }
+    }
+    replays::replay_often(writer, &pool);
+}
+
+/// Lengths at their limits and one past them, one table at a time.
+fn limits(writer: &mut Writer) {
+    let random = &mut writer.random;
+    let (mut tiles, mut operations, mut journal) = (3, 5, 120);
+    match random.below(4) {
+        0 => tiles = random.pick(&[0, 1, 4095, 4096, 4097, 4999, 5000, 5001]),
+        1 => operations = random.pick(&[0, 1, 1023, 1024, 1025, 1199, 1200, 1201]),
+        2 => journal = random.pick(&[65_535, 65_536, 65_537, 65_999, 66_000, 66_001]),
+        _ => journal = random.pick(&[0, 1, 3, 4, 7, 8, 9, 11, 12]),
+    }
+    writer.lend(tiles, operations, journal);
+    pass_the_journal(writer);
+    let pool = Pool::few(&mut writer.random);
+    let mut starting = pool.some_tiles(&mut writer.random);
+    if writer.random.one_in(2) {
+        starting.clear();
+    }
+    let count = writer.put_tiles(starting);
+    // Without a start, too: what a lend leaves is a session as good as a started one.
+    if !writer.random.one_in(3) {
+        writer.tell(format!("start {}", count));
+    }
+    calls::run(writer, &pool, 8);
+    writer.tell("sum");
+    replays::replay_often(writer, &pool);
+    writer.tell("sum");
+}
+
+/// A journal count past the length, with nothing else wrong.
+fn pass_the_journal(writer: &mut Writer) {
+    let length = writer.console.tables.journal.len();
+    for count in [length + 1, length] {
+        writer.tell(format!("journal {}", count));
+        writer.tell("open 0");
+    }
+    writer.tell("journal 0");
+}
+
+fn only_bad_lines(writer: &mut Writer) {
+    writer.lend(2, 2, 60);
+    writer.tell("start 0");
+    writer.tell("open 1");
+    for _ in 0..writer.random.between(10, 40) {
+        let line = bad_lines::bad_line(writer);
+        writer.tell(line);
+        if writer.random.one_in(5) {
+            writer.tell("sum");
+        }
+    }
+}

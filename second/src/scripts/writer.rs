@@ -1,0 +1,96 @@
+//! Writes a script and follows along what its lines do, so that later lines can be chosen to fit.
+
+use crate::console::Console;
+use crate::random::Random;
+use crate::scripts::bad_lines;
+use crate::tile::Tile;
+
+/// Tables with more numbers than this are summed up rarely.
+const MANY_NUMBERS: usize = 2500;
+
+pub struct Writer {
+    pub random: Random,
+    pub console: Console,
+    text: Vec<u8>,
+    lines: usize,
+}
+
+impl Writer {
+    pub fn new(random: Random) -> Writer {
+        Writer {
+            random,
+            console: Console::new(),
+            text: Vec::new(),
+            lines: 0,
+        }
+    }
+
+    pub fn lines(&self) -> usize {
+        self.lines
+    }
+
+    pub fn into_text(self) -> Vec<u8> {
+        self.text
+    }
+
+    /// Writes a line and gives its answer.
+    pub fn tell(&mut self, line: impl AsRef<[u8]>) -> String {
+        self.text.extend_from_slice(line.as_ref());
+        self.text.push(b'\n');
+        self.lines += 1;
+        self.console.answer(line.as_ref())
+    }
+
+    /// Now and then a bad line; then, mostly, a look at the whole content.
+    pub fn look(&mut self) {
+        if self.random.one_in(12) {
+            let line = bad_lines::bad_line(self);
+            self.tell(line);
+        }
+        self.sum_mostly();
+    }
+
+    /// Asks for the sum of everything, after most lines where that is little, else rarely.
+    pub fn sum_mostly(&mut self) {
+        let tables = &self.console.tables;
+        let numbers = tables.tiles.len() + tables.operations.len() + tables.journal.len();
+        let wanted = if numbers > MANY_NUMBERS {
+            self.random.one_in(50)
+        } else {
+            !self.random.one_in(4)
+        };
+        if wanted {
+            self.tell("sum");
+        }
+    }
+
+    pub fn lend(&mut self, tiles: usize, operations: usize, journal: usize) {
+        self.tell(format!("lend {} {} {}", tiles, operations, journal));
+    }
+
+    /// Puts the tiles into the first places, in ascending order, as far as there are places.
+    pub fn put_tiles(&mut self, mut tiles: Vec<Tile>) -> usize {
+        tiles.sort();
+        tiles.dedup();
+        tiles.truncate(self.console.tables.tiles.len());
+        for (place, tile) in tiles.iter().enumerate() {
+            self.tell(format!("tile {} {}", place, tile.key()));
+        }
+        tiles.len()
+    }
+
+    /// Half of the scripts end in something that is not a line.
+    pub fn finish_without_line_feed(&mut self) {
+        let rest = self.random.pick(&["", "", "", "sum", "open 1", " "]);
+        self.text.extend_from_slice(rest.as_bytes());
+    }
+
+    pub fn open_jobs(&self) -> Vec<u8> {
+        let marks = self.console.session.open.iter();
+        (0u8..)
+            .zip(marks)
+            .filter(|(_, mark)| **mark)
+            .map(|(job, _)| job)
+            .collect()
+    }
+}

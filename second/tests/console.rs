@@ -1,0 +1,137 @@
+//! The console page, to the byte.
+
+use second::console::{answers, Console, MOST_INPUT};
+
+fn talk(input: &str) -> String {
+    String::from_utf8_lossy(&answers(input.as_bytes())).into_owned()
+}
+
+#[test]
+fn a_session_by_hand() {
+    let input = "lend 2 3 60\nstart 0\nopen 1\nins 1 4 -1 5\nmem 1 4 15 5\nread 4\nread 0\n\
+                 commit 1\nread 14\nread 18\nmem 1 4 0 0\nopen 2\nmem 2 4 15 5\nmem 2 4 0 0\n\
+                 abort 2\nread 42\nread 46\naddress 4 -1 5\naddress 3 0 0\n";
+    let output = "lent 2 3 60\nreply 0 answer 0 holder 0\nreply 0 answer 0 holder 0\n\
+                  reply 0 answer 1 holder 0\nreply 6 answer 0 holder 1\n\
+                  operation 1 1 1 1073987589 next 14\nopen 1 next 4\n\
+                  reply 0 answer 0 holder 0\ncommit 1 next 18\nend\nreply 3 answer 0 holder 0\n\
+                  reply 0 answer 0 holder 0\nreply 0 answer 1 holder 0\n\
+                  reply 0 answer 0 holder 0\nreply 0 answer 0 holder 0\nabort 2 next 46\nend\n\
+                  reply 0 key 1073987589\nreply 5 key 0\n";
+    assert_eq!(talk(input), output);
+}
+
+#[test]
+fn nothing_is_lent_at_the_beginning() {
+    let input = "start 0\nopen 0\nsum\nread 0\nreplay 0 0\nreplay 7 1\ntile 0 0\nbyte 0 0\n";
+    let output = "reply 1 answer 0 holder 0\nreply 1 answer 0 holder 0\nsum 0\nend\n\
+                  reply 1 offset 0 undone 0 count 0\n?\n?\n?\n";
+    assert_eq!(talk(input), output);
+}
+
+#[test]
+fn replay_leaves_the_session_alone() {
+    let input = "lend 2 3 60\nstart 0\nopen 1\nins 1 4 -1 5\nreplay 0 14\ntile 0 0\n\
+                 replay 0 14\nreplay 0 61\nreplay 9 14\nsum\ncommit 1\n";
+    let output = "lent 2 3 60\nreply 0 answer 0 holder 0\nreply 0 answer 0 holder 0\n\
+                  reply 0 answer 1 holder 0\nreply 1 offset 0 undone 0 count 0\nok\n\
+                  reply 0 offset 14 undone 1 count 0\n?\nreply 1 offset 0 undone 0 count 9\n";
+    assert!(talk(input).starts_with(output));
+    assert!(talk(input).ends_with("reply 1 answer 0 holder 0\n"));
+}
+
+#[test]
+fn the_sum_runs_over_everything() {
+    let input = "lend 2 1 2\nmark 63 1\nmark 0 1\ntiles 7\noperations 8\njournal 9\n\
+                 tile 0 4294967295\ntile 1 3\nentry 0 18446744073709551615\nbyte 1 255\nsum\n";
+    let mut numbers: Vec<u128> = vec![0; 64];
+    numbers[0] = 1;
+    numbers[63] = 1;
+    numbers.extend([7, 8, 9]);
+    numbers.extend([4_294_967_295, 3, 18_446_744_073_709_551_615, 0, 255]);
+    let modulus = 4_294_967_291;
+    let due = numbers
+        .iter()
+        .fold(0, |sum, number| (sum * 31 + number % modulus) % modulus);
+    assert!(talk(input).ends_with(&format!("ok\nsum {}\n", due)));
+}
+
+/// Lines that are no command where 2 tile places, 3 operation places and 60 bytes are lent.
+#[rustfmt::skip]
+const BAD_LINES: [&[u8]; 64] = [
+    b"", b" ", b"sum ", b" sum", b"sum 0", b"SUM", b"sum\r", b"sum\t", b"open", b"open  1",
+    b"open 1 ", b"open 01", b"open +1", b"open -1", b"open 256", b"open 1 2", b"open\t1",
+    b"open 1\r", b"open \xff", b"\xffopen 1", b"open 0x1", b"start 4294967296", b"start -1",
+    b"address 256 0 0", b"address 4 2147483648 0", b"address 4 -2147483649 0",
+    b"address 4 0 2147483648", b"address 4 -0 0", b"address 4 0 -0", b"address 4 00 0",
+    b"address 4 --1 0", b"address 4 - 0", b"address 4 0", b"address 4 0 0 0",
+    b"entry 0 18446744073709551616", b"entry 3 0", b"tile 2 0", b"tile 0 4294967296",
+    b"byte 60 0", b"byte 0 256", b"mark 64 0", b"mark 0 2", b"mark 0 256", b"mark 0",
+    b"lend 5001 1 1", b"lend 1 1201 1", b"lend 1 1 66001", b"lend 1 1", b"lend 1 1 1 1",
+    b"read 4294967296", b"read", b"replay 0 61", b"replay 0", b"replay 0 0 0", b"tiles -1",
+    b"operations 4294967296", b"journal 00", b"commit", b"abort 1 1",
+    b"ins 1 4 0", b"ins 1 4 0 0 0", b"ins 256 4 0 0", b"ins", b"ins     ",
+];
+
+#[test]
+fn what_is_no_command_is_answered_by_a_question_mark() {
+    let mut console = Console::new();
+    console.answer(b"lend 2 3 60");
+    console.answer(b"start 0");
+    let before = console.clone();
+    for line in BAD_LINES {
+        assert_eq!(console.answer(line), "?", "{}", line.escape_ascii());
+        assert_eq!(console.session, before.session);
+        assert_eq!(console.tables, before.tables);
+    }
+}
+
+#[test]
+fn numbers_at_the_end_of_their_types_are_numbers() {
+    let good = [
+        ("open 255", "reply 1 answer 0 holder 0"),
+        ("address 255 -2147483648 2147483647", "reply 5 key 0"),
+        ("address 4 -2147483648 0", "reply 0 key 1073741824"),
+        ("address 4 2147483647 0", "reply 0 key 1073987584"),
+        ("read 4294967295", "end"),
+        ("tiles 4294967295", "ok"),
+        ("operations 4294967295", "ok"),
+        ("journal 4294967295", "ok"),
+        ("lend 5000 1200 66000", "lent 5000 1200 66000"),
+        ("tile 4999 4294967295", "ok"),
+        ("entry 1199 18446744073709551615", "ok"),
+        ("byte 65999 255", "ok"),
+        ("mark 63 1", "ok"),
+        ("lend 0 0 0", "lent 0 0 0"),
+    ];
+    let mut console = Console::new();
+    for (line, due) in good {
+        assert_eq!(console.answer(line.as_bytes()), due, "{}", line);
+    }
+}
+
+#[test]
+fn reading_uses_all_lent_bytes_where_the_count_is_larger() {
+    let input = "lend 1 1 4\nbyte 0 1\nbyte 2 1\nread 0\njournal 3\nread 0\njournal 99\nread 0\n\
+                 byte 0 7\nread 0\nread 4\n";
+    let output = "lent 1 1 4\nok\nok\nend\nok\ncut\nok\nopen 0 next 4\nok\n\
+                  reply 10 offset 0\nend\n";
+    assert_eq!(talk(input), output);
+}
+
+#[test]
+fn what_stands_after_the_last_line_feed_is_not_answered() {
+    assert_eq!(talk("sum\nsum"), "sum 0\n");
+    assert_eq!(talk("sum"), "");
+    assert_eq!(talk(""), "");
+    assert_eq!(talk("\n\n"), "?\n?\n");
+}
+
+#[test]
+fn more_input_than_it_takes_is_too_long() {
+    let mut input = vec![b'x'; MOST_INPUT];
+    input[0] = b'\n';
+    assert_eq!(answers(&input), b"?\n");
+    input.push(b'\n');
+    assert_eq!(answers(&input), b"too long\n");
+}
