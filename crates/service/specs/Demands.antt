@@ -4,7 +4,7 @@ use mathlib.Core.List.{List, [], _++_, map}
 use mathlib.Core.Logic.{_↔_, _≢_, _⊎_}
 use mathlib.Core.Option.{none, some}
 use mathlib.Core.Path.{_∙_, _≡_, ap, refl, subst, sym}
-use Prim.Native.Nat.{_*_, _+_, _<_, _≤_, ℕ}
+use Prim.Native.Nat.{_*_, _+_, _-_, _<_, _≤_, ℕ}
 use native.Mathlib.Omega.{arith}
 use lib.Dec.{eqb}
 use lib.ListN.{drop, length, take}
@@ -33,13 +33,14 @@ use Rattle.service.specs.Laws.Rebuilding.{cut-records, reads-back, rebui
 use Rattle.service.specs.Laws.Soundness.{is-sound, sound-is}
 use Rattle.service.specs.Laws.Stopping.{stopped-because, stops-there}
 use Rattle.service.specs.Laws.Storing.{open-small}
+use Rattle.service.specs.Laws.Whole.{bytes-encoded}
 use Rattle.service.specs.Replay.{replayCall, stopped}
 use Rattle.service.specs.Sound.{Sound, soundB}
 use Rattle.service.specs.Tile.{addressCall, keyOf}
 use Rattle.service.specs.Told.{bare, done, refused}
 use Rattle.service.specs.World.{Reported, World, freeBytes, state, usedJournal, usedOperations, usedTiles, world}
 use Rattle.service.specs.declared.Address.{Address}
-use Rattle.service.specs.declared.Read.the-variants.{End}
+use Rattle.service.specs.declared.Read.the-variants.{End, Whole}
 use Rattle.service.specs.declared.Record.{Record}
 
 -- 1. ONE NUMBER FROM THE LIST, AND A REFUSAL CHANGES NOTHING
@@ -141,6 +142,11 @@ pub held-names-first : (w : World) (job : ℕ) (p : Procedure) (a : Address) (k 
 held-names-first w job p a k holder sound small is-open has-key = held-names w job p a k sound small is-open has-key holder
 
 -- 3. A REPLAY OF ANY BYTES
+-- the bytes of a whole record are the encoding of what was read, so that they can be read in no other way
+pub whole-is-encoded : (journal : List ℕ) (at : ℕ) (r : Record) (next : ℕ) → All (λ b. b < 256) journal → readAt journal at ≡ Whole r next
+    → take (next - at) (drop at journal) ≡ encode r
+whole-is-encoded journal at r next bytes reads = bytes-encoded journal at r next bytes reads
+
 -- the numbers are 0, 1, 10, 11 and 12
 pub replay-numbers : (journal tiles : List ℕ) (count : ℕ) (operations : List ℕ) →
     let n = replayCall journal tiles count operations .number in

@@ -8,6 +8,7 @@ pub mod Extents
 pub mod Accepting
 pub mod Performing
 pub mod Reading
+pub mod Whole
 pub mod Halting
 pub mod Stopping
 pub mod Replaying
