@@ -1,17 +1,12 @@
 -- `console::main` is safe and ends: as many bytes are looked at as were read
-use mathlib.Core.Path.{_≡_, subst, sym}
-use Prim.Native.Nat.{_≤_, ℕ}
-use lib.ListN.{length, length-replicate}
+use mathlib.Core.Path.{sym}
+use Prim.Native.Nat.{ℕ}
+use lib.ListN.{length-replicate}
 use lib.Seq.{length-take-le}
 use borrow.Author.Needs.{needs}
-use Rattle.terminal.specs.Input.{Within}
-use Rattle.terminal.specs.declared.Input.the-variants.{Bytes}
-use Rattle.terminal.specs.declared.Input.{Input}
+use Rattle.terminal.specs.Input.{brought}
 use Rattle.console.proofs.main.Statement.{statement}
 use Rattle.console.proofs.main.Tie as tie
-
-within : (c : tie.After-read-all) {n : ℕ} → c .read-all .result ≡ Bytes n → n ≤ length (c .read-all .last .0)
-within c seen = subst (λ (i : Input). Within i (length (c .read-all .last .0))) seen (c .read-all .ensures)
 
 slice-aggregate-read-all : tie.Need-slice-aggregate-read-all
 slice-aggregate-read-all c = sym (length-replicate {0} {A = ℕ} 1048577 0)
@@ -32,10 +27,10 @@ enum-known-n : tie.Need-enum-known-n
 enum-known-n c = c .match .keys2
 
 array-share-prefix-script : tie.Need-array-share-prefix-script
-array-share-prefix-script c = within (c .before .before .before .before) (c .before .n .given .1)
+array-share-prefix-script c = brought (c .before .before .before .before .read-all .ensures) (c .before .n .given .1)
 
 slice-aggregate-answer-script : tie.Need-slice-aggregate-answer-script
-slice-aggregate-answer-script c = sym (length-take-le _ _ (within (c .before .before .before .before .before) (c .before .before .n .given .1)))
+slice-aggregate-answer-script c = sym (length-take-le _ _ (brought (c .before .before .before .before .before .read-all .ensures) (c .before .before .n .given .1)))
 
 answer-script-requires : tie.Need-answer-script-requires
 answer-script-requires c κs = search needs

@@ -1,14 +1,13 @@
 -- `terminal::read_all` meets its contract: what is used lies inside the space
-use mathlib.Core.Path.{_≡_, refl, subst}
+use mathlib.Core.Path.{_≡_, refl}
 use Prim.Native.Nat.{_-_, _≤_, ℕ}
 use native.Mathlib.Omega.{arith}
 use lib.ListN.{length}
 use borrow.Author.Needs.{needs}
 use Rattle.terminal.proofs.read_all.Statement.{statement}
 use Rattle.terminal.proofs.read_all.Tie as tie
-use Rattle.terminal.specs.Input.{Within}
+use Rattle.terminal.specs.Input.{brought}
 use Rattle.terminal.specs.declared.Input.the-variants.{Bytes}
-use Rattle.terminal.specs.declared.Input.{Input}
 
 abbrev Inv-loop : tie.InvT-loop
 Inv-loop space₀ used₀ space used = (used ≤ length space₀) × (length space ≡ length space₀)
@@ -18,7 +17,7 @@ abbrev μ-loop : tie.MeasureT-loop
 
 -- what a read brought fits behind what is used
 came : (c : tie.After-read-some Inv-loop μ-loop) {n : ℕ} → c .read-some .result ≡ Bytes n → n ≤ length (c .before .before .before .loop .space) - c .before .before .before .loop .used
-came c seen = subst (λ (i : Input). Within i (length (c .before .before .before .loop .space) - c .before .before .before .loop .used)) seen (c .read-some .ensures)
+came c seen = brought (c .read-some .ensures) seen
 
 -- a read keeps the space's length
 kept : (c : tie.After-read-some Inv-loop μ-loop) → length (c .read-some .last .0) ≡ length (c .before .before .before .loop .space)
