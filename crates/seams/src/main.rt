@@ -60,6 +60,15 @@ fn job_of(name: u8) -> u8 {
 }
 
 // One call: `(` opens, `)` commits, `!` aborts, `+` inserts, `-` deletes, and `?` asks.
+// Any other sign than + and - asks.
+fn procedure_of(what: u8) -> Procedure {
+    match what {
+        b'+' => Procedure::Ins,
+        b'-' => Procedure::Del,
+        _ => Procedure::Mem,
+    }
+}
+
 fn call(
     session: Session,
     tiles: &mut [u32],
@@ -69,37 +78,18 @@ fn call(
     what: u8,
     tile: u8,
 ) -> Outcome {
-    let address = address_of(tile);
     match what {
         b'(' => sanbirogu::open(session, tiles, operations, journal, job),
         b')' => sanbirogu::commit(session, tiles, operations, journal, job),
         b'!' => sanbirogu::abort(session, tiles, operations, journal, job),
-        b'+' => sanbirogu::operation(
-            session,
-            tiles,
-            operations,
-            journal,
-            job,
-            Procedure::Ins,
-            address,
-        ),
-        b'-' => sanbirogu::operation(
-            session,
-            tiles,
-            operations,
-            journal,
-            job,
-            Procedure::Del,
-            address,
-        ),
         _ => sanbirogu::operation(
             session,
             tiles,
             operations,
             journal,
             job,
-            Procedure::Mem,
-            address,
+            procedure_of(what),
+            address_of(tile),
         ),
     }
 }

@@ -8,19 +8,20 @@ use native.Mathlib.Omega.{arith}
 use lib.Dec.{eqb}
 use lib.ListN.{length}
 use lib.Seq.{getD-take, length-take-le}
-use denote.Ref.{now}
 use borrow.Author.Needs.{needs}
 use borrow.Author.Tests.{eq-eqb, ne-eqb}
+use denote.Ref.{now}
 use Rattle.entries.specs.Laws.{holder-place, jobAt, place-inside}
+use Rattle.entries.specs.Table.{holderPlace}
 use Rattle.service.specs.Entry.{jobIn, opIn}
 use Rattle.service.specs.Laws.Entries.{kind-range}
 use Rattle.service.specs.World.{World, state, usedOperations, usedTiles, world}
 use Rattle.strict.specs.Book.{heldBy, needsPlace, spokenFor}
-use Rattle.strict.specs.Operations.{begun}
+use Rattle.strict.specs.Operations.{begun, kind}
 use Rattle.strict.specs.Strict.{alone}
 use Rattle.engine.proofs.admit.Statement.{statement}
-use Rattle.engine.specs.Laws.{admitted, held, no-place, no-slot, operations-count, tile-table}
 use Rattle.engine.proofs.admit.Tie as tie
+use Rattle.engine.specs.Laws.{admitted, held, no-place, no-slot, operations-count, tile-table}
 
 -- what the function was given
 abbrev given : tie.After-first-holder → World
@@ -31,8 +32,9 @@ held-by : (c : tie.After-first-holder)
     heldBy alone (state (given c) .book) 0 (a .procedure) (a .key) ≡ jobAt (usedOperations (given c)) (c .first-holder .result)
 held-by c =
     let a = c .before .before .before .before .before .args in
-    rw (c .first-holder .ensures, c .before .kind .ensures, c .before .before .is-present .ensures)
-    (holder-place (a .procedure) (a .key) 0 (usedTiles (given c)) (usedOperations (given c)))
+    let of-kind = ap (λ n. holderPlace n (a .key) (usedOperations (given c))) (c .before .kind .ensures ∙ ap (kind (a .procedure)) (c .before .before .is-present .ensures)) in
+    holder-place (a .procedure) (a .key) 0 (usedTiles (given c)) (usedOperations (given c))
+    ∙ ap (jobAt (usedOperations (given c))) (sym (c .first-holder .ensures ∙ of-kind))
 
 -- the holder's place is a used one
 place-there : (c : tie.After-holder) → c .holder .given .0 .0 < c .before .before .before .before .before .before .before .args .session .operations

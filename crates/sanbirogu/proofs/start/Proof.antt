@@ -1,10 +1,10 @@
 -- `sanbirogu::start` meets its contract: by whether the tables can start
-use denote.Ref.{now}
 use borrow.Author.Needs.{needs}
+use denote.Ref.{now}
 use Rattle.lists.specs.Truth.{test-fails, test-passes}
 use Rattle.sanbirogu.proofs.start.Statement.{statement}
-use Rattle.sanbirogu.specs.Laws.{start-done, start-refused}
 use Rattle.sanbirogu.proofs.start.Tie as tie
+use Rattle.sanbirogu.specs.Laws.{start-done, start-refused}
 
 can-start-requires : tie.Need-can-start-requires
 can-start-requires c κs = search needs
