@@ -6,9 +6,9 @@ use Prim.Native.Nat.{_*_, _+_, _<_, _≤_, ℕ}
 use lib.Dec.{eqb, ltb}
 use lib.ListN.{length}
 use borrow.Author.Tests.{eqb-true, le-ltb, lt-ltb, not-false}
-use Rattle.engine.specs.Laws.{Means, same-holder}
-use Rattle.engine.specs.declared.Verdict.the-variants.{Admitted, Held, NoOperationRoom, NoTileRoom}
-use Rattle.engine.specs.declared.Verdict.{Verdict}
+use Rattle.admission.specs.Laws.{Means, same-holder}
+use Rattle.admission.specs.declared.Verdict.the-variants.{Admitted, Held, NoOperationRoom, NoTileRoom}
+use Rattle.admission.specs.declared.Verdict.{Verdict}
 use Rattle.lists.specs.Truth.{never}
 use Rattle.service.specs.Admission.{isOpen, openMarks}
 use Rattle.service.specs.Calls.{endRefusals, openRefusals, operationRefusals}

@@ -7,7 +7,7 @@ ghost use Rattle.service.specs.Sound.{Sound};
 ghost use Rattle.service.specs.Told.{decided, done, told};
 ghost use Rattle.service.specs.World.{world};
 ghost use Rattle.decisions.specs.Decides.{Decides, Judges};
-use engine::Verdict;
+use admission::Verdict;
 use service::Address;
 use service::Located;
 use service::Reply;
@@ -102,7 +102,7 @@ pub fn open_reply(
         return Reply::AlreadyOpen;
     }
     let used = session.journal;
-    let open = soundness::open_jobs(session);
+    let open = scans::open_jobs(session);
     if journal.len() - used < 4 + 4 * (open + 1) {
         return Reply::NoJournalRoom;
     }
@@ -144,13 +144,13 @@ fn judge(
     requires { ⌜ Sound (world session (now tiles) (now operations) (now journal)) ⌝ }
     ensures { λ r. ⌜ Judges (world session (now (tiles .entry)) (now (operations .entry)) (now (journal .entry))) procedure key r ⌝ }
 {
-    match engine::admit(session, tiles, operations, procedure, key) {
+    match admission::admit(session, tiles, operations, procedure, key) {
         Verdict::Held(holder) => Decision::Refuse(Reply::Held(holder)),
         Verdict::NoTileRoom => Decision::Refuse(Reply::NoTileRoom),
         Verdict::NoOperationRoom => Decision::Refuse(Reply::NoOperationRoom),
         Verdict::Admitted => {
             let used = session.journal;
-            if journal.len() - used < 10 + 4 * soundness::open_jobs(session) {
+            if journal.len() - used < 10 + 4 * scans::open_jobs(session) {
                 return Decision::Refuse(Reply::NoJournalRoom);
             }
             Decision::Perform(key)

@@ -6,6 +6,7 @@ use Prim.Native.Nat.{_+_, _<_, _≤_, ℕ}
 use native.Mathlib.Omega.{arith}
 use lib.Dec.{eqb}
 use lib.ListN.{length, length-append, length-map, set}
+use Rattle.admission.specs.Laws.{entry-table, operations-count, tile-table, tiles-count}
 use Rattle.entries.specs.Laws.{decoded, others-without, padded-more}
 use Rattle.entries.specs.Table.{withoutJob}
 use Rattle.lists.specs.Lists.{All}
@@ -25,7 +26,6 @@ use Rattle.strict.specs.Operations.{Op, apply, begun, clear, effect, kind, put,
 use Rattle.strict.specs.Tiles.{delete, insert, member}
 use Rattle.strict.specs.declared.Procedure.{Procedure}
 use Rattle.engine.specs.Events.{Ready, closed, opened}
-use Rattle.engine.specs.Laws.{entry-table, operations-count, tile-table, tiles-count}
 use Rattle.engine.specs.Undoing.{recovered, undone}
 
 -- ENTRIES, WRITTEN BACK

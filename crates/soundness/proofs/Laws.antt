@@ -1,5 +1,5 @@
 -- The tests as the code asks them, each by one function, and what the first of them say for the later ones
-use mathlib.Core.Bool.{Bool, _&&_, and-assoc, and-false, and-true, false, true}
+use mathlib.Core.Bool.{Bool, _&&_, and-assoc, and-true, false, true}
 use mathlib.Core.List.{List, [], _∷_}
 use mathlib.Core.Path.{_∙_, _≡_, ap, refl, sym}
 use Prim.Native.Nat.{_+_, _-_, _≤_, suc, zero, ℕ}
@@ -11,7 +11,8 @@ use borrow.Author.Tests.{le-leb, leb-true}
 use Rattle.entries.specs.Laws.{reserved-three}
 use Rattle.entries.specs.Table.{countThree}
 use Rattle.lists.specs.Lists.{all}
-use Rattle.lists.specs.Truth.{both, never, oneIf}
+use Rattle.lists.specs.Truth.{both, oneIf}
+use Rattle.scans.specs.Tests.{allEntries, fails, sortedKeys}
 use Rattle.service.specs.Calls.{fresh, startWorld}
 use Rattle.service.specs.Entry.{kindIn}
 use Rattle.service.specs.Laws.Soundness.{ascending-is, every-is, zeros-is}
@@ -22,13 +23,7 @@ use Rattle.service.specs.declared.Session.{Session}
 use Rattle.strict.specs.Book.{spokenFor}
 use Rattle.tiles.specs.Laws.{zeros-table}
 use Rattle.tiles.specs.Table.{TileTable}
-use Rattle.soundness.specs.Tests.{allEntries, countTests, sortedKeys}
-
--- one test that fails
-pub fails : (bs : List Bool) (i : ℕ) → getD bs i true ≡ false → every bs ≡ false
-fails [] i e = never e
-fails (b ∷ bs) zero e = rw e
-fails (b ∷ bs) (suc i) e = rw (fails bs i e) (and-false b)
+use Rattle.soundness.specs.Tests.{countTests}
 
 one-few : (b : Bool) → oneIf b ≤ 1
 one-few true = omega arith

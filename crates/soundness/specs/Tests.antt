@@ -1,13 +1,9 @@
--- The parts of service's test of soundness that one function each computes
-use mathlib.Core.Bool.{Bool, _&&_, not}
+-- The part of service's test of soundness that looks at lengths and counts
+use mathlib.Core.Bool.{Bool}
 use mathlib.Core.List.{List, [], _∷_}
 use Prim.Native.Nat.{ℕ}
-use lib.Dec.{eqb, leb}
+use lib.Dec.{leb}
 use lib.ListN.{length}
-use Rattle.lists.specs.Lists.{all}
-use Rattle.service.specs.Entry.{keyIn}
-use Rattle.service.specs.Sound.{ascendingB, entryTests, every}
-use Rattle.service.specs.Tile.{isKey}
 use Rattle.service.specs.declared.Session.{Session}
 
 -- the lengths within their limits, and the counts within the lengths
@@ -20,15 +16,3 @@ countTests s tiles operations =
     ∷ leb (s .tiles) (length tiles)
     ∷ leb (s .operations) (length operations)
     ∷ []
-
--- valid keys, strictly ascending
-abbrev pub sortedKeys : List ℕ → Bool
-sortedKeys ks = all isKey ks && ascendingB ks
-
--- each entry has a kind, an open job and a valid key
-abbrev pub allEntries : List Bool → List ℕ → Bool
-allEntries marks es = all (λ e. every (entryTests marks e)) es
-
--- no entry has the tile
-abbrev pub elsewhere : ℕ → List ℕ → Bool
-elsewhere key es = all (λ e. not (eqb key (keyIn e))) es

@@ -5,9 +5,9 @@ use Prim.Native.Nat.{_*_, _+_}
 use borrow.Author.Needs.{needs}
 use borrow.Author.Tests.{le-ltb, lt-ltb}
 use denote.Ref.{now}
-use Rattle.engine.specs.Laws.{verdict-seen}
-use Rattle.engine.specs.declared.Verdict.the-variants.{Admitted, NoOperationRoom, NoTileRoom}
-use Rattle.engine.specs.declared.Verdict.{Verdict}
+use Rattle.admission.specs.Laws.{verdict-seen}
+use Rattle.admission.specs.declared.Verdict.the-variants.{Admitted, NoOperationRoom, NoTileRoom}
+use Rattle.admission.specs.declared.Verdict.{Verdict}
 use Rattle.service.specs.Admission.{openMarks}
 use Rattle.service.specs.Laws.Soundness.{retabled}
 use Rattle.service.specs.World.{World, world}

@@ -2,13 +2,13 @@
 use mathlib.Core.List.{[]}
 use mathlib.Core.Path.{_≡_, refl}
 use lib.ListN.{length}
-use denote.Ref.{now}
 use borrow.Author.Needs.{needs}
+use denote.Ref.{now}
+use Rattle.admission.specs.Laws.{entry-table, room-there, tile-table}
 use Rattle.service.specs.World.{World, world}
 use Rattle.engine.proofs.abort_job.Statement.{statement}
-use Rattle.engine.specs.Forms.{aborted}
-use Rattle.engine.specs.Laws.{entry-table, room-there, tile-table}
 use Rattle.engine.proofs.abort_job.Tie as tie
+use Rattle.engine.specs.Forms.{aborted}
 
 -- what the function was given
 abbrev given : tie.Start → World

@@ -2,14 +2,14 @@
 use mathlib.Core.List.{[]}
 use mathlib.Core.Path.{_≡_, refl}
 use lib.ListN.{length}
-use denote.Ref.{now}
 use borrow.Author.Needs.{needs}
+use denote.Ref.{now}
+use Rattle.admission.specs.Laws.{tile-table}
 use Rattle.service.specs.Laws.Entries.{kind-range}
 use Rattle.service.specs.World.{World, world}
 use Rattle.engine.proofs.perform_operation.Statement.{statement}
-use Rattle.engine.specs.Forms.{affected-fits, performed, slot-free}
-use Rattle.engine.specs.Laws.{tile-table}
 use Rattle.engine.proofs.perform_operation.Tie as tie
+use Rattle.engine.specs.Forms.{affected-fits, performed, slot-free}
 
 -- what the function was given
 abbrev given : tie.Start → World

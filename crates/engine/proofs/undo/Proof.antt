@@ -4,8 +4,8 @@ use Prim.Native.Nat.{_-_, _≤_}
 use native.Mathlib.Omega.{arith}
 use lib.ListN.{getD, take}
 use lib.Seq.{getD-take, length-take-le}
-use denote.Ref.{now}
 use borrow.Author.Needs.{needs}
+use denote.Ref.{now}
 use Rattle.engine.proofs.Downward.{Undoing, begins, passes, recovers, recovery-fits, same-places, table-now}
 use Rattle.engine.proofs.undo.Statement.{statement}
 use Rattle.engine.proofs.undo.Tie as tie

@@ -1,15 +1,15 @@
 -- `soundness::can_start` meets its contract: its tests are what is left of the definition's where no job is open and no operation is used
 use mathlib.Core.Path.{_∙_, _≡_, ap}
-use denote.Ref.{now}
 use borrow.Author.Needs.{needs}
+use denote.Ref.{now}
 use Rattle.lists.specs.Truth.{test-fails, test-passes}
 use Rattle.service.specs.Calls.{fresh}
 use Rattle.service.specs.Sound.{every}
 use Rattle.service.specs.declared.Session.{Session}
 use Rattle.soundness.proofs.Laws.{counted, journal-decides, start-fails}
 use Rattle.soundness.proofs.can_start.Statement.{statement}
-use Rattle.soundness.specs.Tests.{countTests}
 use Rattle.soundness.proofs.can_start.Tie as tie
+use Rattle.soundness.specs.Tests.{countTests}
 
 fresh-session-requires : tie.Need-fresh-session-requires
 fresh-session-requires c κs = search needs

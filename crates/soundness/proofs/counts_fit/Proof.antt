@@ -2,12 +2,12 @@
 use mathlib.Core.Bool.{Bool, and-true}
 use mathlib.Core.List.{List}
 use mathlib.Core.Path.{sym}
-use denote.Ref.{now}
 use borrow.Author.Tests.{le-leb, lt-leb}
-use Rattle.soundness.proofs.Laws.{fails}
+use denote.Ref.{now}
+use Rattle.scans.specs.Tests.{fails}
 use Rattle.soundness.proofs.counts_fit.Statement.{statement}
-use Rattle.soundness.specs.Tests.{countTests}
 use Rattle.soundness.proofs.counts_fit.Tie as tie
+use Rattle.soundness.specs.Tests.{countTests}
 
 abbrev tests : tie.Start → List Bool
 tests c = countTests (c .args .session) (now (c .args .tiles)) (now (c .args .operations))

@@ -2,13 +2,13 @@
 use mathlib.Core.Bool.{Bool, and-true}
 use mathlib.Core.List.{List, _∷_}
 use mathlib.Core.Path.{sym}
-use denote.Ref.{now}
 use borrow.Author.Needs.{needs}
 use borrow.Author.Tests.{le-leb, lt-leb}
+use denote.Ref.{now}
 use Rattle.lists.specs.Truth.{test-fails, test-passes}
+use Rattle.scans.specs.Tests.{fails}
 use Rattle.service.specs.Sound.{journalTests, soundB, tabledB}
 use Rattle.service.specs.World.{World, world}
-use Rattle.soundness.proofs.Laws.{fails}
 use Rattle.soundness.proofs.sound.Statement.{statement}
 use Rattle.soundness.proofs.sound.Tie as tie
 

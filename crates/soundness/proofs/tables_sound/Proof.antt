@@ -1,8 +1,8 @@
 -- `soundness::tables_sound` meets its contract: each call computes a part of the test, and what the parts before it say is what it requires
 use native.Mathlib.Omega.{arith}
-use denote.Ref.{now}
 use borrow.Author.Needs.{needs}
 use borrow.Author.Tests.{not-false}
+use denote.Ref.{now}
 use Rattle.lists.specs.Truth.{test-fails, test-passes}
 use Rattle.soundness.proofs.Laws.{Counted, counted, part-fails, reserved-few, room-decides, tile-table}
 use Rattle.soundness.proofs.tables_sound.Statement.{statement}

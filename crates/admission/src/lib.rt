@@ -1,0 +1,100 @@
+// Whether an operation is admitted on sound tables, its kind and its answer. Nothing is written here.
+ghost use mathlib.Core.Bool.{_&&_};
+ghost use mathlib.Core.List.{[]};
+ghost use mathlib.Core.Path.{_≡_};
+ghost use lib.Dec.{eqb};
+ghost use lib.ListN.{length};
+ghost use Rattle.strict.specs.Book.{spokenFor};
+ghost use Rattle.strict.specs.Operations as report;
+ghost use Rattle.service.specs.Sound.{Tabled};
+ghost use Rattle.service.specs.World.{state, world};
+ghost use Rattle.admission.specs.Verdicts.{verdictOf};
+use entries::Holder;
+use service::Session;
+use strict::Procedure;
+
+// Whether an operation is admitted, and if not, why.
+pub enum Verdict {
+    Admitted,
+    Held(u8),
+    NoTileRoom,
+    NoOperationRoom,
+}
+
+// The kind of an operation, by whether it found its tile.
+pub fn kind(procedure: Procedure, found: bool) -> usize
+    ensures { λ r. ⌜ r ≡ report.kind procedure found ⌝ }
+{
+    match procedure {
+        Procedure::Ins => {
+            if found {
+                return 2;
+            }
+            1
+        }
+        Procedure::Del => {
+            if found {
+                return 3;
+            }
+            4
+        }
+        Procedure::Mem => {
+            if found {
+                return 5;
+            }
+            6
+        }
+    }
+}
+
+// ins and del answer ok, mem whether it found its tile.
+pub fn answer(procedure: Procedure, found: bool) -> bool
+    ensures { λ r. ⌜ r ≡ report.answer procedure found ⌝ }
+{
+    match procedure {
+        Procedure::Ins => true,
+        Procedure::Del => true,
+        Procedure::Mem => found,
+    }
+}
+
+// Whether an operation of this kind needs a tile place and all are spoken for.
+fn lacks_place(session: Session, tiles: &[u32], operations: &[u64], kind: usize) -> bool
+    requires { ⌜ Tabled (world session (now tiles) (now operations) []) ⌝ }
+    ensures { λ r. ⌜ r ≡ (eqb kind 1 && eqb (spokenFor (state (world session (now (tiles .entry)) (now (operations .entry)) []) .book)) (length (now (tiles .entry)))) ⌝ }
+{
+    if kind != 1 {
+        return false;
+    }
+    let count = session.tiles;
+    let used = session.operations;
+    count + entries::count_reserved(operations, used) == tiles.len()
+}
+
+// Judges an operation and writes nothing: first the holder, then tile room, then operation room.
+pub fn admit(
+    session: Session,
+    tiles: &[u32],
+    operations: &[u64],
+    procedure: Procedure,
+    key: u32,
+) -> Verdict
+    requires { ⌜ Tabled (world session (now tiles) (now operations) []) ⌝ }
+    ensures { λ r. ⌜ r ≡ verdictOf (length (now (tiles .entry))) (length (now (operations .entry)))
+        (state (world session (now (tiles .entry)) (now (operations .entry)) []) .book) procedure key ⌝ }
+{
+    let count = session.tiles;
+    let used = session.operations;
+    let kind = kind(procedure, tiles::is_present(tiles, count, key));
+    let holder = entries::first_holder(operations, used, kind, key);
+    if let Holder::At(place) = holder {
+        return Verdict::Held(entries::job_in(operations[place]));
+    }
+    if lacks_place(session, tiles, operations, kind) {
+        return Verdict::NoTileRoom;
+    }
+    if used == operations.len() {
+        return Verdict::NoOperationRoom;
+    }
+    Verdict::Admitted
+}
