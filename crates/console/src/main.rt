@@ -109,14 +109,6 @@ fn print_address(address: Address) {
     }
 }
 
-fn procedure_byte(procedure: Procedure) -> u64 {
-    match procedure {
-        Procedure::Ins => 1,
-        Procedure::Del => 2,
-        Procedure::Mem => 3,
-    }
-}
-
 fn print_job(name: &[u8], job: u8) {
     print(name);
     print_number(job as u64);
@@ -129,7 +121,7 @@ fn print_record(noted: Record) {
             let procedure = operation.procedure;
             print_job(b"operation ", operation.job);
             print(b" ");
-            print_number(procedure_byte(procedure));
+            print_number(journal::procedure_byte(procedure) as u64);
             print(b" ");
             print_number(operation.answer as u64);
             print(b" ");

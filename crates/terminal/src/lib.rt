@@ -19,6 +19,15 @@ pub fn print_number(n: u64) {
     io::print_decimal(STDOUT_FILENO, n);
 }
 
+// Zoom, column and row of a key, with this between them.
+pub fn print_tile(key: u32, between: &[u8]) {
+    print_number((key / 268435456) as u64);
+    print(between);
+    print_number((key / 16384 % 16384) as u64);
+    print(between);
+    print_number((key % 16384) as u64);
+}
+
 // One read into the places from `from` on.
 fn read_some(space: &mut [u8], from: usize) -> Input
     requires { ⌜ from ≤ length (now space) ⌝ }

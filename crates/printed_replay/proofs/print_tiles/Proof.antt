@@ -24,8 +24,8 @@ shared-slice-read-key c = omega arith
 returns : tie.Need-returns Inv-loop μ-loop
 returns c = tt
 
-print-tile-requires : tie.Need-print-tile-requires Inv-loop μ-loop
-print-tile-requires c κs = search needs
+print-line-requires : tie.Need-print-line-requires Inv-loop μ-loop
+print-line-requires c κs = search needs
 
 add-i : tie.Need-add-i Inv-loop μ-loop
 add-i c = omega arith
@@ -49,7 +49,7 @@ print-tiles-spec =
     mul-key
     shared-slice-read-key
     returns
-    print-tile-requires
+    print-line-requires
     add-i
     loop-less
     loop-again
