@@ -1,0 +1,69 @@
+//! Changes that most often make a sound session unsound.
+
+use super::random::Random;
+use super::world::World;
+use crate::session::{JOBS, MOST_JOURNAL, MOST_OPERATIONS, MOST_TILES};
+
+/// Makes one change; now and then the session is sound after it all the same.
+pub fn damage(random: &mut Random, world: &mut World) {
+    match random.below(4) {
+        0 => damage_tiles(random, &mut world.tiles),
+        1 => damage_entries(random, &mut world.operations, world.session.operations),
+        2 => damage_session(random, world),
+        _ => damage_lengths(random, world),
+    }
+}
+
+fn damage_tiles(random: &mut Random, tiles: &mut [u32]) {
+    let (one, other) = (random.below(tiles.len()), random.below(tiles.len()));
+    match random.below(4) {
+        0 => tiles[one] ^= 1 << random.below(32),
+        1 => tiles.swap(one, other),
+        2 => tiles[one] = tiles[other],
+        _ => tiles[one] = random.key(),
+    }
+}
+
+fn damage_entries(random: &mut Random, operations: &mut [u64], used: usize) {
+    let any = random.below(operations.len());
+    if used == 0 {
+        operations[any] = random.number();
+        return;
+    }
+    let (one, other) = (random.below(used), random.below(used));
+    match random.below(6) {
+        0 => operations[any] ^= 1 << random.below(48),
+        1 => operations.swap(one, other),
+        // the neighbour, and then any other, gets the same tile
+        2 => operations[one] = with_key_of(operations[one], operations[(one + 1) % used]),
+        3 => operations[one] = with_key_of(operations[one], operations[other]),
+        4 => operations[one] ^= (1 + random.below(7) as u64) << 40,
+        _ => operations[one] = with_key_of(operations[one], u64::from(random.key())),
+    }
+}
+
+fn with_key_of(entry: u64, other: u64) -> u64 {
+    entry >> 32 << 32 | u64::from(other as u32)
+}
+
+fn damage_session(random: &mut Random, world: &mut World) {
+    let session = &mut world.session;
+    match random.below(5) {
+        0 => session.marks[random.below(JOBS)] ^= true,
+        1 => session.tiles = random.below(MOST_TILES + 2),
+        2 => session.operations = random.below(MOST_OPERATIONS + 2),
+        3 => session.journal = world.journal.len() + 4 - random.below(300).min(world.journal.len()),
+        _ => session.tiles = usize::MAX - random.below(2),
+    }
+}
+
+fn damage_lengths(random: &mut Random, world: &mut World) {
+    match random.below(6) {
+        0 => world.tiles.truncate(random.below(MOST_TILES)),
+        1 => world.operations.truncate(random.below(MOST_OPERATIONS)),
+        2 => world.journal.truncate(random.below(400)),
+        3 => world.tiles.resize(MOST_TILES + 1, 0),
+        4 => world.operations.resize(MOST_OPERATIONS + 1, 0),
+        _ => world.journal.resize(MOST_JOURNAL + 1, 0),
+    }
+}

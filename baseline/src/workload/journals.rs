@@ -1,0 +1,91 @@
+//! Journals to replay: one that the calls wrote until it was full, and pieces and wrong versions.
+
+use super::random::Random;
+use super::world::{Call, World};
+use crate::journal::Procedure;
+use crate::reply::Refusal;
+use crate::session::JOBS;
+use crate::soundness::Check;
+use crate::tile::Address;
+
+/// How many entries are open while a journal is written.
+#[derive(Clone, Copy, Debug, PartialEq, Eq)]
+pub enum Load {
+    Few,
+    Many,
+}
+
+impl Load {
+    pub const ALL: [Load; 2] = [Load::Few, Load::Many];
+
+    /// One call in so many of an open job ends it.
+    fn calls_of_a_job(self) -> usize {
+        match self {
+            Load::Few => 4,
+            Load::Many => 40,
+        }
+    }
+}
+
+/// A journal with the tiles from which it was written.
+#[derive(Clone)]
+pub struct Written {
+    pub journal: Vec<u8>,
+    pub start: World,
+    pub end: World,
+}
+
+const ASKED: [Procedure; 5] = [
+    Procedure::Insert,
+    Procedure::Insert,
+    Procedure::Insert,
+    Procedure::Delete,
+    Procedure::Member,
+];
+
+/// Calls on this world, with random keys and these, until there is no journal room for an operation.
+pub fn write_full(random: &mut Random, load: Load, start: World, keys: &[u32]) -> Written {
+    let mut world = start.clone();
+    loop {
+        let job = random.below(JOBS) as u8;
+        let call = if !world.session.is_open(job) {
+            Call::Open(job)
+        } else if random.one_in(load.calls_of_a_job()) {
+            random.pick(&[Call::Commit(job), Call::Commit(job), Call::Abort(job)])
+        } else {
+            let address = Address::of_key(random.pick(keys));
+            Call::Operation(job, random.pick(&ASKED), address)
+        };
+        if world.call(Check::Filter, call) == Err(Refusal::NoJournalRoom) {
+            break;
+        }
+    }
+    Written {
+        journal: world.written().to_vec(),
+        start,
+        end: world,
+    }
+}
+
+/// The journal with a byte changed, a piece missing or put in twice, or its end cut off.
+pub fn spoilt(random: &mut Random, journal: &[u8]) -> Vec<u8> {
+    let mut spoilt = journal.to_vec();
+    if spoilt.is_empty() {
+        return spoilt;
+    }
+    let at = random.below(spoilt.len());
+    let end = spoilt.len().min(at + 1 + random.below(24));
+    match random.below(6) {
+        0 | 1 => spoilt[at] = random.below(10) as u8,
+        2 => spoilt[at] ^= 1 << random.below(8),
+        3 => {
+            spoilt.drain(at..end);
+        }
+        4 => {
+            let piece = spoilt[at..end].to_vec();
+            spoilt.splice(at..at, piece);
+        }
+        _ => spoilt.truncate(at),
+    }
+    spoilt
+}

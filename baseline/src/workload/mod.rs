@@ -1,0 +1,8 @@
+//! What the tests and the benchmark run the service on, all of it made from fixed seeds.
+
+pub mod damage;
+pub mod histories;
+pub mod journals;
+pub mod packs;
+pub mod random;
+pub mod world;

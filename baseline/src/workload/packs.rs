@@ -1,0 +1,137 @@
+//! Sound sessions of several sorts, most of them with full tables.
+
+use super::random::Random;
+use super::world::World;
+use crate::entry::{self, ALREADY_GONE, ALREADY_THERE, DELETED, INSERTED, NOT_SEEN, SEEN};
+use crate::session::{JOBS, MOST_OPERATIONS, MOST_TILES};
+use crate::soundness::{slot, SPREAD};
+use crate::tile::is_key;
+
+#[derive(Clone, Copy, Debug, PartialEq, Eq)]
+pub enum Sort {
+    Mixed,
+    Changing,
+    Unchanging,
+    Colliding,
+    LittleUsed,
+    Small,
+}
+
+/// A job that is closed in every pack; all others are open.
+pub const CLOSED_JOB: u8 = JOBS as u8 - 1;
+
+/// A job that is open and has no entries, until it is given some.
+pub const IDLE_JOB: u8 = 0;
+
+impl Sort {
+    pub const ALL: [Sort; 6] = [
+        Sort::Mixed,
+        Sort::Changing,
+        Sort::Unchanging,
+        Sort::Colliding,
+        Sort::LittleUsed,
+        Sort::Small,
+    ];
+
+    pub fn name(self) -> &'static str {
+        match self {
+            Sort::Mixed => "full, mixed kinds",
+            Sort::Changing => "full, all changing (1 and 3)",
+            Sort::Unchanging => "full, none changing (2, 4, 5, 6)",
+            Sort::Colliding => "full, keys collide in the filter",
+            Sort::LittleUsed => "100 tiles, 12 entries in use",
+            Sort::Small => "full, 64 and 16 places",
+        }
+    }
+
+    fn kinds(self) -> &'static [u64] {
+        match self {
+            Sort::Changing => &[INSERTED, DELETED],
+            Sort::Unchanging => &[ALREADY_THERE, ALREADY_GONE, SEEN, NOT_SEEN],
+            Sort::Colliding => &[INSERTED],
+            Sort::Mixed | Sort::LittleUsed | Sort::Small => &[
+                INSERTED,
+                ALREADY_THERE,
+                DELETED,
+                ALREADY_GONE,
+                SEEN,
+                NOT_SEEN,
+            ],
+        }
+    }
+
+    /// Tile places and entries in use; a reserved place counts as used.
+    fn usage(self) -> (usize, usize) {
+        match self {
+            Sort::LittleUsed => (100, 12),
+            Sort::Small => (64, 16),
+            _ => (MOST_TILES, MOST_OPERATIONS),
+        }
+    }
+
+    pub fn pack(self, seed: u64) -> World {
+        let mut random = Random::seeded(seed);
+        let (places, entries) = self.usage();
+        let kinds: Vec<u64> = (0..entries).map(|_| random.pick(self.kinds())).collect();
+        let own_keys = match self {
+            Sort::Colliding => colliding_keys(random.key(), entries),
+            _ => Vec::new(),
+        };
+        let keys = random.distinct_keys(own_keys, places + 2 * entries);
+        let mut world = world_of(&mut random, places, &kinds, &keys);
+        if self == Sort::Small {
+            world.tiles.truncate(places);
+            world.operations.truncate(entries);
+        }
+        world
+    }
+}
+
+/// The first keys are present, those behind them absent. An entry that changed its tile has one
+/// of its own; the others share what is left.
+fn world_of(random: &mut Random, places: usize, kinds: &[u64], keys: &[u32]) -> World {
+    let deleted = kinds.iter().filter(|&&kind| kind == DELETED).count();
+    let (present, absent) = keys.split_at(places - deleted);
+    let mut world = World::with_tiles(present.to_vec());
+    for (at, &kind) in kinds.iter().enumerate() {
+        let shared = kinds.len() + random.below(kinds.len());
+        let key = match kind {
+            INSERTED => present[at],
+            DELETED => absent[at],
+            ALREADY_THERE | SEEN => present[shared],
+            _ => absent[shared],
+        };
+        let job = 1 + at as u8 % (CLOSED_JOB - 1);
+        world.operations[at] = entry::entry(kind, job, key);
+    }
+    world.session.operations = kinds.len();
+    world.session.marks = [true; JOBS];
+    world.session.marks[usize::from(CLOSED_JOB)] = false;
+    world
+}
+
+/// Keys that all have the slot of this one in the filter.
+fn colliding_keys(example: u32, count: usize) -> Vec<u32> {
+    let product = slot(example) << 16;
+    (0..1 << 16)
+        .map(|low| (product as u32 | low).wrapping_mul(inverse_of_spread()))
+        .filter(|&key| is_key(key))
+        .take(count)
+        .collect()
+}
+
+/// The inverse of the multiplier by 2^32; each step of Newton's doubles the number of right bits.
+fn inverse_of_spread() -> u32 {
+    (0..5).fold(SPREAD, |inverse, _| {
+        inverse.wrapping_mul(2u32.wrapping_sub(SPREAD.wrapping_mul(inverse)))
+    })
+}
+
+/// Gives the idle job so many of the entries, evenly spread.
+pub fn employ_idle_job(world: &mut World, count: usize) {
+    let used = world.session.operations;
+    for at in (0..count).map(|n| n * used / count) {
+        let taken = world.operations[at];
+        world.operations[at] = entry::entry(entry::kind(taken), IDLE_JOB, entry::key(taken));
+    }
+}

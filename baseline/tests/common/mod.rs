@@ -1,0 +1,105 @@
+//! A world with its jobs 1 and 2 open, and calls by short names.
+#![allow(dead_code)]
+
+use baseline::journal::Procedure;
+use baseline::reply::{Refusal, Reply};
+use baseline::session::JOBS;
+use baseline::soundness::Check;
+use baseline::tile::Address;
+use baseline::workload::world::{Call, World};
+
+pub const A: Address = Address {
+    zoom: 4,
+    column: -1,
+    row: 5,
+};
+pub const B: Address = Address {
+    zoom: 14,
+    column: -1,
+    row: 16_383,
+};
+pub const C: Address = Address {
+    zoom: 4,
+    column: 16,
+    row: 0,
+};
+
+pub const DONE: Reply = Ok(false);
+pub const OK: Reply = Ok(true);
+pub const FAIL: Reply = Ok(false);
+
+pub fn held(job: u8) -> Reply {
+    Err(Refusal::Held(job))
+}
+
+pub struct Case {
+    pub world: World,
+}
+
+impl Case {
+    pub fn ample(present: &[Address]) -> Case {
+        Case::with_places(4_096, present)
+    }
+
+    /// So many tile places, these tiles, and jobs 1 and 2 open.
+    pub fn with_places(places: usize, present: &[Address]) -> Case {
+        let keys = present.iter().filter_map(|a| a.key()).collect();
+        let mut world = World::with_tiles(keys);
+        world.tiles.truncate(places);
+        let mut case = Case { world };
+        assert_eq!(case.call(Call::Start(present.len())), DONE);
+        assert_eq!(case.call(Call::Open(1)), DONE);
+        assert_eq!(case.call(Call::Open(2)), DONE);
+        case
+    }
+
+    /// Makes a call with every check; they all reply the same and leave the same.
+    pub fn call(&mut self, call: Call) -> Reply {
+        let before = self.world.clone();
+        let reply = self.world.call(Check::Filter, call);
+        for check in Check::ALL {
+            let mut other = before.clone();
+            assert_eq!(other.call(check, call), reply, "{check:?} {call:?}");
+            assert!(other == self.world, "{check:?} {call:?}");
+        }
+        if reply.is_err() && !matches!(call, Call::Start(_)) {
+            assert!(self.world == before, "{call:?} was refused");
+        }
+        reply
+    }
+
+    pub fn insert(&mut self, job: u8, address: Address) -> Reply {
+        self.call(Call::Operation(job, Procedure::Insert, address))
+    }
+
+    pub fn delete(&mut self, job: u8, address: Address) -> Reply {
+        self.call(Call::Operation(job, Procedure::Delete, address))
+    }
+
+    pub fn member(&mut self, job: u8, address: Address) -> Reply {
+        self.call(Call::Operation(job, Procedure::Member, address))
+    }
+
+    pub fn commit(&mut self, job: u8) -> Reply {
+        self.call(Call::Commit(job))
+    }
+
+    pub fn abort(&mut self, job: u8) -> Reply {
+        self.call(Call::Abort(job))
+    }
+
+    pub fn has(&self, address: Address) -> bool {
+        let used = &self.world.tiles[..self.world.session.tiles];
+        address.key().map_or(false, |key| used.contains(&key))
+    }
+}
+
+/// The world as it is after every open job is aborted.
+pub fn ended(mut world: World) -> World {
+    for job in 0..JOBS as u8 {
+        if world.session.is_open(job) {
+            assert_eq!(world.call(Check::Filter, Call::Abort(job)), DONE);
+        }
+    }
+    world
+}
