@@ -1,0 +1,192 @@
+//! Holds every way against the first: each field of a reply, the session and all buffers.
+
+use crate::census::Census;
+use crate::ways::{Way, WAYS};
+use baseline::workload::damage::damage;
+use baseline::workload::histories::{any_call, recorded, small_world};
+use baseline::workload::journals::{spoilt, write_full, Load};
+use baseline::workload::packs::Sort;
+use baseline::workload::random::Random;
+use baseline::workload::world::{Call, World};
+
+type Agreed = Result<(), String>;
+
+const PACKS_OF_A_SORT: u64 = 16;
+const DAMAGES_OF_A_PACK: usize = 40;
+const SMALL_HISTORIES: usize = 150;
+const CALLS_OF_A_HISTORY: usize = 160;
+const SPOILT_JOURNALS: usize = 200;
+const RECORDED_OPERATIONS: usize = 600;
+
+/// Fails with the first difference, or if some reply never came up.
+pub fn compare_all() -> Result<Census, String> {
+    let mut census = Census::default();
+    compare_packs(&mut census)?;
+    compare_small_histories(&mut census)?;
+    compare_recorded(&mut census)?;
+    compare_full_journals(&mut census)?;
+    match census.missing() {
+        Some(missing) => Err(missing),
+        None => Ok(census),
+    }
+}
+
+/// Makes a call in every way on copies of the world, and leaves the world as they do.
+fn compare_call(census: &mut Census, world: &mut World, call: Call) -> Agreed {
+    let before = world.clone();
+    let expected = WAYS[0].call(world, call);
+    census.count_call(expected[0]);
+    for way in &WAYS[1..] {
+        let mut other = before.clone();
+        let reply = way.call(&mut other, call);
+        compare(
+            *way,
+            &format!("{call:?}"),
+            (expected, world),
+            (reply, &other),
+        )?;
+    }
+    Ok(())
+}
+
+/// The same for a replay onto the world's tiles.
+fn compare_replay(census: &mut Census, journal: &[u8], start: &World) -> Agreed {
+    let mut world = start.clone();
+    let expected = WAYS[0].replay(journal, &mut world);
+    census.count_journal(expected[0]);
+    for way in &WAYS[1..] {
+        let mut other = start.clone();
+        let reply = way.replay(journal, &mut other);
+        let what = format!("the replay of {} bytes", journal.len());
+        compare(*way, &what, (expected, &world), (reply, &other))?;
+    }
+    Ok(())
+}
+
+fn compare(way: Way, what: &str, expected: ([u64; 4], &World), got: ([u64; 4], &World)) -> Agreed {
+    let (one, other) = (WAYS[0].name(), way.name());
+    if expected.0 != got.0 {
+        let replies = format!("told {:?} and {:?}", expected.0, got.0);
+        return Err(format!("{what}, by {one} and by {other}: {replies}"));
+    }
+    let part = match (expected.1, got.1) {
+        (a, b) if a.session != b.session => "the session",
+        (a, b) if a.tiles != b.tiles => "the tiles",
+        (a, b) if a.operations != b.operations => "the operations",
+        (a, b) if a.journal != b.journal => "the journal",
+        _ => return Ok(()),
+    };
+    Err(format!("{what}, by {one} and by {other}: {part} after it"))
+}
+
+fn compare_checks(world: &mut World) -> Agreed {
+    let sound = WAYS[0].is_sound(world);
+    match WAYS.iter().find(|way| way.is_sound(world) != sound) {
+        Some(way) => {
+            let (one, other) = (WAYS[0].name(), way.name());
+            Err(format!("the check by {one} says {sound}, by {other} not"))
+        }
+        None => Ok(()),
+    }
+}
+
+/// Full and small tables, sound and damaged: the check, a start and a few calls.
+fn compare_packs(census: &mut Census) -> Agreed {
+    let mut random = Random::seeded(1);
+    for sort in Sort::ALL {
+        for seed in 0..PACKS_OF_A_SORT {
+            let pack = sort.pack(seed);
+            compare_pack(census, &mut random, pack.clone())?;
+            for _ in 0..DAMAGES_OF_A_PACK {
+                let mut damaged = pack.clone();
+                damage(&mut random, &mut damaged);
+                compare_pack(census, &mut random, damaged)?;
+            }
+        }
+    }
+    Ok(())
+}
+
+fn compare_pack(census: &mut Census, random: &mut Random, mut world: World) -> Agreed {
+    compare_checks(&mut world)?;
+    let mut started = world.clone();
+    let count = world.session.tiles;
+    compare_call(census, &mut started, Call::Start(count))?;
+    let keys = random.distinct_keys(world.tiles.iter().copied().take(64).collect(), 128);
+    for _ in 0..4 {
+        let call = any_call(random, &keys, 64);
+        compare_call(census, &mut world, call)?;
+    }
+    Ok(())
+}
+
+/// Histories on small tables, and replays of what they wrote: whole, cut and spoilt.
+fn compare_small_histories(census: &mut Census) -> Agreed {
+    let mut random = Random::seeded(2);
+    for _ in 0..SMALL_HISTORIES {
+        let keys = random.distinct_keys(Vec::new(), 8);
+        let mut world = small_world(&mut random, &keys);
+        let start = world.clone();
+        let count = world.session.tiles;
+        compare_call(census, &mut world, Call::Start(count))?;
+        for _ in 0..CALLS_OF_A_HISTORY {
+            let call = any_call(&mut random, &keys, 5);
+            compare_checks(&mut world)?;
+            compare_call(census, &mut world, call)?;
+        }
+        let journal = world.written();
+        for bytes in 0..=journal.len() {
+            compare_replay(census, &journal[..bytes], &start)?;
+        }
+        compare_spoilt(census, &mut random, journal, &start, 40)?;
+    }
+    Ok(())
+}
+
+/// A wrong journal, or now and then the right one on damaged tables.
+fn compare_spoilt(
+    census: &mut Census,
+    random: &mut Random,
+    journal: &[u8],
+    start: &World,
+    times: usize,
+) -> Agreed {
+    for _ in 0..times {
+        if random.one_in(8) {
+            let mut damaged = start.clone();
+            damage(random, &mut damaged);
+            compare_replay(census, journal, &damaged)?;
+        } else {
+            compare_replay(census, &spoilt(random, journal), start)?;
+        }
+    }
+    Ok(())
+}
+
+fn compare_recorded(census: &mut Census) -> Agreed {
+    let recorded = recorded(3, RECORDED_OPERATIONS);
+    let mut world = recorded.start;
+    for stretch in recorded.stretches {
+        for call in stretch.freeing.into_iter().chain(stretch.operations) {
+            compare_call(census, &mut world, call)?;
+        }
+    }
+    Ok(())
+}
+
+fn compare_full_journals(census: &mut Census) -> Agreed {
+    let mut random = Random::seeded(4);
+    for load in Load::ALL {
+        for tiles in [0, 4_000] {
+            let keys = random.distinct_keys(Vec::new(), 5_000);
+            let start = World::with_tiles(keys[..tiles].to_vec());
+            let written = write_full(&mut random, load, start, &keys);
+            compare_replay(census, &written.journal, &written.start)?;
+            let too_long = [&written.journal[..], &[0; 65_536]].concat();
+            compare_replay(census, &too_long, &written.start)?;
+            let (journal, start) = (&written.journal, &written.start);
+            compare_spoilt(census, &mut random, journal, start, SPOILT_JOURNALS)?;
+        }
+    }
+    Ok(())
+}

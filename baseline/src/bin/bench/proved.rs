@@ -1,0 +1,189 @@
+//! The proved calls. A slice goes as a pointer and a length, an array as a pointer.
+
+use baseline::session::Session;
+use baseline::workload::world::{Call, World};
+
+/// Number, answer and holder; of a replay number, offset, jobs undone and tiles left.
+pub type Numbers = [u64; 4];
+
+type Marks = [bool; 64];
+type Counts = [usize; 3];
+
+#[link(name = "bench", kind = "static")]
+extern "C" {
+    fn bench_sound(
+        marks: *const Marks,
+        counts: *const Counts,
+        tiles: *const u32,
+        tile_places: usize,
+        operations: *const u64,
+        operation_places: usize,
+        journal: *const u8,
+        journal_bytes: usize,
+    ) -> bool;
+    fn bench_start(
+        marks: *mut Marks,
+        counts: *mut Counts,
+        tiles: *const u32,
+        tile_places: usize,
+        operations: *mut u64,
+        operation_places: usize,
+        journal: *const u8,
+        journal_bytes: usize,
+        count: usize,
+        reply: *mut Numbers,
+    );
+    fn bench_open(
+        marks: *mut Marks,
+        counts: *mut Counts,
+        tiles: *const u32,
+        tile_places: usize,
+        operations: *const u64,
+        operation_places: usize,
+        journal: *mut u8,
+        journal_bytes: usize,
+        job: u8,
+        reply: *mut Numbers,
+    );
+    fn bench_operation(
+        marks: *mut Marks,
+        counts: *mut Counts,
+        tiles: *mut u32,
+        tile_places: usize,
+        operations: *mut u64,
+        operation_places: usize,
+        journal: *mut u8,
+        journal_bytes: usize,
+        job: u8,
+        procedure: u8,
+        zoom: u8,
+        column: i32,
+        row: i32,
+        reply: *mut Numbers,
+    );
+    fn bench_commit(
+        marks: *mut Marks,
+        counts: *mut Counts,
+        tiles: *const u32,
+        tile_places: usize,
+        operations: *mut u64,
+        operation_places: usize,
+        journal: *mut u8,
+        journal_bytes: usize,
+        job: u8,
+        reply: *mut Numbers,
+    );
+    fn bench_abort(
+        marks: *mut Marks,
+        counts: *mut Counts,
+        tiles: *mut u32,
+        tile_places: usize,
+        operations: *mut u64,
+        operation_places: usize,
+        journal: *mut u8,
+        journal_bytes: usize,
+        job: u8,
+        reply: *mut Numbers,
+    );
+    fn bench_replay(
+        journal: *const u8,
+        journal_bytes: usize,
+        tiles: *mut u32,
+        tile_places: usize,
+        count: usize,
+        operations: *mut u64,
+        operation_places: usize,
+        reply: *mut Numbers,
+    );
+}
+
+fn counts_of(session: &Session) -> Counts {
+    [session.tiles, session.operations, session.journal]
+}
+
+pub fn is_sound(world: &World) -> bool {
+    let counts = counts_of(&world.session);
+    // SAFETY: each pointer is to as many elements as its length says, and is only read
+    unsafe {
+        bench_sound(
+            &world.session.marks,
+            &counts,
+            world.tiles.as_ptr(),
+            world.tiles.len(),
+            world.operations.as_ptr(),
+            world.operations.len(),
+            world.journal.as_ptr(),
+            world.journal.len(),
+        )
+    }
+}
+
+/// A function with the arguments that all calls on a session have, and then its own.
+macro_rules! on_session {
+    ($function:ident($marks:expr, $counts:expr, $world:expr $(, $argument:expr)*)) => {
+        // SAFETY: each pointer is to as many elements as its length says, and no two overlap
+        unsafe {
+            $function(
+                $marks,
+                $counts,
+                $world.tiles.as_mut_ptr(),
+                $world.tiles.len(),
+                $world.operations.as_mut_ptr(),
+                $world.operations.len(),
+                $world.journal.as_mut_ptr(),
+                $world.journal.len()
+                $(, $argument)*
+            )
+        }
+    };
+}
+
+pub fn call(world: &mut World, call: Call) -> Numbers {
+    let mut reply = [0; 4];
+    let mut marks = world.session.marks;
+    let mut counts = counts_of(&world.session);
+    let (m, c, r) = (&mut marks, &mut counts, &mut reply);
+    match call {
+        Call::Start(count) => on_session!(bench_start(m, c, world, count, r)),
+        Call::Open(job) => on_session!(bench_open(m, c, world, job, r)),
+        Call::Operation(job, procedure, address) => on_session!(bench_operation(
+            m,
+            c,
+            world,
+            job,
+            procedure as u8,
+            address.zoom,
+            address.column,
+            address.row,
+            r
+        )),
+        Call::Commit(job) => on_session!(bench_commit(m, c, world, job, r)),
+        Call::Abort(job) => on_session!(bench_abort(m, c, world, job, r)),
+    }
+    let [tiles, operations, journal] = counts;
+    world.session = Session {
+        marks,
+        tiles,
+        operations,
+        journal,
+    };
+    reply
+}
+
+pub fn replay(journal: &[u8], tiles: &mut [u32], count: usize, operations: &mut [u64]) -> Numbers {
+    let mut reply = [0; 4];
+    // SAFETY: each pointer is to as many elements as its length says, and no two overlap
+    unsafe {
+        bench_replay(
+            journal.as_ptr(),
+            journal.len(),
+            tiles.as_mut_ptr(),
+            tiles.len(),
+            count,
+            operations.as_mut_ptr(),
+            operations.len(),
+            &mut reply,
+        );
+    }
+    reply
+}
