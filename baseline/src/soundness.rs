@@ -100,7 +100,7 @@ fn changed_last_by_pairs(entries: &[u64]) -> bool {
 }
 
 /// Whether no entry behind this one has its tile.
-pub(crate) fn is_last(entries: &[u64], at: usize) -> bool {
+fn is_last(entries: &[u64], at: usize) -> bool {
     let own = key(entries[at]);
     !entries[at + 1..].iter().any(|&e| key(e) == own)
 }

@@ -3,7 +3,7 @@
 
 use crate::entry::{job, key, kind, DELETED, INSERTED, NOT_SEEN};
 use crate::session::Session;
-use crate::soundness::{is_last, KeyFilter};
+use crate::soundness::KeyFilter;
 
 /// For each zoom the bits that no key of it has; all of them where the zoom is not served.
 const FOREIGN_BITS: [u32; 16] = foreign_bits();
@@ -49,6 +49,7 @@ pub fn tiles_hold(tiles: &[u32], count: usize) -> bool {
 fn reserved_if_sound(session: &Session, tiles: &[u32], entries: &[u64]) -> Option<usize> {
     let mut seen = KeyFilter::new();
     let mut reserved = 0;
+    let mut wrong = false;
     for at in (0..entries.len()).rev() {
         let entry = entries[at];
         let (kind, key) = (kind(entry), key(entry));
@@ -59,11 +60,20 @@ fn reserved_if_sound(session: &Session, tiles: &[u32], entries: &[u64]) -> Optio
         let was_seen = seen.insert(key);
         if kind == INSERTED || kind == DELETED {
             let is_there = tiles.binary_search(&key).is_ok();
-            if is_there != (kind == INSERTED) || was_seen && !is_last(entries, at) {
+            // asked at the end: a branch for each search was measured to be slower
+            wrong |= is_there != (kind == INSERTED);
+            if was_seen && !is_last(entries, at) {
                 return None;
             }
             reserved += usize::from(kind == DELETED);
         }
     }
-    Some(reserved)
+    Some(reserved).filter(|_| !wrong)
+}
+
+/// Whether no entry behind this one has its tile; it looks at all, several at a time.
+fn is_last(entries: &[u64], at: usize) -> bool {
+    let own = key(entries[at]);
+    let later = entries[at + 1..].iter();
+    !later.fold(false, |found, &e| found | (key(e) == own))
 }

@@ -27,8 +27,7 @@ impl Load {
     }
 }
 
-/// A journal with the tiles from which it was written.
-#[derive(Clone)]
+/// A journal, and the worlds before and after the calls that wrote it.
 pub struct Written {
     pub journal: Vec<u8>,
     pub start: World,

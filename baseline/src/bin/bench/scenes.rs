@@ -11,9 +11,9 @@ use baseline::workload::world::{Call, World};
 use std::time::{Duration, Instant};
 
 const CHECK_ROUNDS: usize = 100;
-const LIST_ROUNDS: usize = 12;
+const LIST_ROUNDS: usize = 15;
 const CALL_ROUNDS: usize = 25;
-const REPLAY_ROUNDS: usize = 15;
+const REPLAY_ROUNDS: usize = 40;
 const RECORDED_OPERATIONS: usize = 1_500;
 
 /// One repeated table teaches the branch predictor; so many different ones do not.
