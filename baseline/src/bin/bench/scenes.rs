@@ -1,5 +1,5 @@
-//! What is timed. Every way takes its turn in every round, and its best round counts. What a call
-//! leaves is asserted, so that the compiler can leave none out.
+//! What is timed. Every way takes its turn in every round. What a call leaves is asserted, so that
+//! the compiler can leave none out.
 
 use crate::table::Row;
 use crate::ways::{Way, WAYS};
@@ -31,56 +31,71 @@ pub fn time_all() -> Vec<Row> {
     rows
 }
 
-/// The best of so many rounds for each way; a round answers how long it took for how many calls.
-fn best_of(name: String, rounds: usize, mut round: impl FnMut(Way) -> (Duration, usize)) -> Row {
-    let mut best = [f64::INFINITY; WAYS.len()];
-    for _ in 0..rounds {
+/// Runs so many rounds. A round answers how long each of its pieces took; of every piece the best
+/// round counts, for a long round on a busy machine is never undisturbed.
+fn best_of(
+    name: String,
+    rounds: usize,
+    calls: usize,
+    mut round: impl FnMut(Way) -> Vec<Duration>,
+) -> Row {
+    let mut best = WAYS.map(&mut round);
+    for _ in 1..rounds {
         for (best, way) in best.iter_mut().zip(WAYS) {
-            let (spent, calls) = round(way);
-            *best = best.min(spent.as_secs_f64() * 1e6 / calls as f64);
+            for (best, spent) in best.iter_mut().zip(round(way)) {
+                *best = spent.min(*best);
+            }
         }
     }
+    let a_call = |pieces: Vec<Duration>| {
+        let all: Duration = pieces.iter().sum();
+        all.as_secs_f64() * 1e6 / calls as f64
+    };
     Row {
         name,
-        microseconds: best,
+        microseconds: best.map(a_call),
     }
+}
+
+/// How long something took.
+fn timed(run: impl FnOnce()) -> Duration {
+    let begin = Instant::now();
+    run();
+    begin.elapsed()
 }
 
 fn time_check(sort: Sort) -> Row {
     let mut packs: Vec<World> = (0..PACKS).map(|seed| sort.pack(seed)).collect();
-    best_of(format!("check: {}", sort.name()), CHECK_ROUNDS, |way| {
-        let begin = Instant::now();
-        for pack in &mut packs {
-            assert!(way.is_sound(pack));
-        }
-        (begin.elapsed(), packs.len())
+    let name = format!("check: {}", sort.name());
+    best_of(name, CHECK_ROUNDS, packs.len(), |way| {
+        let check_all = || assert!(packs.iter_mut().all(|pack| way.is_sound(pack)));
+        vec![timed(check_all)]
     })
 }
 
 fn time_recorded() -> Row {
     let recorded = recorded(3, RECORDED_OPERATIONS);
-    best_of("operation: recorded list".to_string(), LIST_ROUNDS, |way| {
+    let name = "operation: recorded list".to_string();
+    best_of(name, LIST_ROUNDS, RECORDED_OPERATIONS, |way| {
         time_list(way, &recorded)
     })
 }
 
-/// The calls that make room are not timed.
-fn time_list(way: Way, recorded: &Recorded) -> (Duration, usize) {
+/// Each stretch of the list; the calls that make room before it are not timed.
+fn time_list(way: Way, recorded: &Recorded) -> Vec<Duration> {
     let mut world = recorded.start.clone();
-    let mut spent = Duration::ZERO;
+    let mut run = |calls: &[Call]| {
+        for &call in calls {
+            way.call(&mut world, call);
+        }
+    };
+    let mut spent = Vec::new();
     for stretch in &recorded.stretches {
-        for &call in &stretch.freeing {
-            way.call(&mut world, call);
-        }
-        let begin = Instant::now();
-        for &call in &stretch.operations {
-            way.call(&mut world, call);
-        }
-        spent += begin.elapsed();
+        run(&stretch.freeing);
+        spent.push(timed(|| run(&stretch.operations)));
     }
     assert!(world == recorded.end);
-    let operations = recorded.stretches.iter().map(|s| s.operations.len()).sum();
-    (spent, operations)
+    spent
 }
 
 fn time_calls() -> Vec<Row> {
@@ -106,16 +121,12 @@ fn time_call(name: &str, call: Call, entries: usize) -> Row {
             pack
         })
         .collect();
-    best_of(name.to_string(), CALL_ROUNDS, |way| {
-        let mut spent = Duration::ZERO;
-        for pack in &packs {
+    best_of(name.to_string(), CALL_ROUNDS, packs.len(), |way| {
+        let time_one = |pack: &World| {
             let mut world = pack.clone();
-            let begin = Instant::now();
-            let reply = way.call(&mut world, call);
-            spent += begin.elapsed();
-            assert_eq!(reply[0], 0);
-        }
-        (spent, packs.len())
+            timed(|| assert_eq!(way.call(&mut world, call)[0], 0))
+        };
+        packs.iter().map(time_one).collect()
     })
 }
 
@@ -123,13 +134,12 @@ fn time_replay(load: Load, tiles: usize) -> Row {
     let written = journal_for(load, tiles);
     let entries = written.end.session.operations;
     let name = format!("replay: {tiles} tiles, {entries} entries at the end");
-    best_of(name, REPLAY_ROUNDS, |way| {
+    best_of(name, REPLAY_ROUNDS, 1, |way| {
         let mut world = written.start.clone();
-        let begin = Instant::now();
-        let reply = way.replay(&written.journal, &mut world);
-        let spent = begin.elapsed();
-        assert_eq!(reply[1], written.journal.len() as u64);
-        (spent, 1)
+        let all = written.journal.len() as u64;
+        vec![timed(|| {
+            assert_eq!(way.replay(&written.journal, &mut world)[1], all);
+        })]
     })
 }
 
