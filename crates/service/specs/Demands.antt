@@ -1,47 +1,56 @@
 -- THE DEMANDS. Each speaks of the definitions that the calls promise to keep, and so of the calls
 use mathlib.Core.Bool.{Bool, cond, false, true}
-use mathlib.Core.List.{List, [], _++_, map}
+use mathlib.Core.List.{List, [], _++_, _∷_, map}
 use mathlib.Core.Logic.{_↔_, _≢_, _⊎_}
 use mathlib.Core.Option.{none, some}
-use mathlib.Core.Path.{_∙_, _≡_, ap, refl, subst, sym}
+use mathlib.Core.Path.{_∙_, _≡_, ap, ap₂, refl, subst, sym}
 use Prim.Native.Nat.{_*_, _+_, _-_, _<_, _≤_, ℕ}
 use native.Mathlib.Omega.{arith}
-use lib.Dec.{eqb}
+use lib.Dec.{eqb, ltb}
 use lib.ListN.{drop, length, take}
-use lib.Seq.{length-sets}
-use borrow.Author.Tests.{eqb-false, eqb-true, le-ltb, ne-eqb}
+use lib.Seq.{length-sets, sets-eq}
+use borrow.Author.Tests.{eq-eqb, eqb-false, eqb-true, le-ltb, lt-ltb, ltb-false, ltb-true, ne-eqb, not-true}
 use Rattle.lists.specs.Lists.{All}
+use Rattle.lists.specs.Truth.{both}
+use Rattle.strict.specs.Book.{heldBy, needsPlace, spokenFor}
 use Rattle.strict.specs.Choices.{Choice}
 use Rattle.strict.specs.Commutativity.{FirstHolder}
 use Rattle.strict.specs.Histories.{kept, opened, unfinished}
 use Rattle.strict.specs.Operations.{Op, begun}
-use Rattle.strict.specs.Strict.{Log, Strict, _▷_, alone, run}
+use Rattle.strict.specs.Strict.{Log, Strict, _▷_, alone, inGroups, run, without}
+use Rattle.strict.specs.Theorems.{admitted-strict, room-is-enough}
 use Rattle.strict.specs.declared.Procedure.{Procedure}
-use Rattle.service.specs.Admission.{State, answerOn, answerTo, isOpen, openMarks}
-use Rattle.service.specs.Calls.{abortCall, carried, commitCall, fresh, openCall, operationCall, settled, startCall, startWorld}
-use Rattle.service.specs.Claims.{Because, Halts, Keeps, Reached, Reads, RebuildsAlone, Stops, records, tilesAfter}
+use Rattle.service.specs.Admission.{State, answerOn, answerTo, isOpen, openMarks, ruleOf}
+use Rattle.service.specs.Calls.{abortCall, carried, commitCall, fresh, openCall, operationCall, ruledWorld, settled, startCall, startWorld}
+use Rattle.service.specs.Claims.{Because, ChangedByOther, Halts, Keeps, NoRoomByJob, Reached, Reads, RebuildsAlone, Stops, records, tilesAfter}
 use Rattle.service.specs.Entry.{opIn}
 use Rattle.service.specs.History.{Call, From, call, event, history, jobOf, operating, refusalsOf}
-use Rattle.service.specs.Journal.{encode, readAt, recordOf}
+use Rattle.service.specs.Journal.{encode, readAt, recordOf, ruleBytes, ruleIn}
 use Rattle.service.specs.Laws.Accepting.{after-stands, carried-bytes, carried-places, carried-slots, carried-sound, decided-small, left-carried, lowest-told, none-told, passed, passes, small, told-done}
-use Rattle.service.specs.Laws.Deciding.{accepted-just, held-just, held-names, room-just}
+use Rattle.service.specs.Laws.Deciding.{accepted-just, accepted-told, held-by-other, held-just, held-names, room-by-job, room-just, room-told}
 use Rattle.service.specs.Laws.Extents.{recordSize}
 use Rattle.service.specs.Laws.Halting.{number-of-replay, refused-is, refused-just, starts-left}
 use Rattle.service.specs.Laws.Ordering.{WantsOpen, told-five, told-four, told-one, told-three, told-two}
-use Rattle.service.specs.Laws.Performing.{Arrived, answer-is, arrived, arrived-reached, stands, start-is, table-is, tiles-are}
+use Rattle.service.specs.Laws.Performing.{Arrived, answer-is, arrived, arrived-reached, stands, start-is, start-told, table-is, tiles-are}
+use Rattle.service.specs.Laws.Reading.{rule-first}
 use Rattle.service.specs.Laws.Rebuilding.{cut-records, reads-back, rebuilds}
+use Rattle.service.specs.Laws.Ruling.{runs-by}
 use Rattle.service.specs.Laws.Soundness.{is-sound, sound-is}
+use Rattle.service.specs.Laws.Starting.{start-numbers, told-of-start}
 use Rattle.service.specs.Laws.Stopping.{stopped-because, stops-there}
 use Rattle.service.specs.Laws.Storing.{open-small}
-use Rattle.service.specs.Laws.Whole.{bytes-encoded}
+use Rattle.service.specs.Laws.Wording.{settled-worded, worded-settled}
+use Rattle.service.specs.Laws.Whole.{bytes-encoded, in-front}
 use Rattle.service.specs.Replay.{replayCall, stopped}
-use Rattle.service.specs.Sound.{Sound, soundB}
+use Rattle.service.specs.Sound.{AllSettled, Sound, Worded, soundB}
 use Rattle.service.specs.Tile.{addressCall, keyOf}
 use Rattle.service.specs.Told.{bare, done, refused}
 use Rattle.service.specs.World.{Reported, World, freeBytes, state, usedJournal, usedOperations, usedTiles, world}
 use Rattle.service.specs.declared.Address.{Address}
-use Rattle.service.specs.declared.Read.the-variants.{End, Whole}
+use Rattle.service.specs.declared.Read.the-variants.{End, Ruled, Whole}
 use Rattle.service.specs.declared.Record.{Record}
+use Rattle.service.specs.declared.Rule.{Rule}
+use Rattle.service.specs.declared.Rule.the-variants.{Alone, Together}
 
 -- 1. ONE NUMBER FROM THE LIST, AND A REFUSAL CHANGES NOTHING
 pub refusal-changes-nothing : (w : World) (c : Call) → call w c .told .number ≢ 0 → (call w c .after ≡ w) × (call w c .told .number ≤ 9)
@@ -78,21 +87,47 @@ pub five-exact : (w : World) (job : ℕ) (p : Procedure) (a : Address)
     → (operationCall w job p a .told .number ≡ 5) ↔ ((soundB w ≡ true) × (job ≤ 63) × (isOpen (state w) job ≡ true) × (keyOf a ≡ none))
 five-exact w job p a = told-five w job p a
 
-pub start-refused : (tiles : List ℕ) (count : ℕ) (operations journal : List ℕ) → startCall tiles count operations journal .told .number ≢ 0
-    → startCall tiles count operations journal ≡ record { told = bare 1; after = world (fresh 0) tiles operations journal }
-unfolding startCall
-start-refused tiles count operations journal n = go (soundB (startWorld tiles count operations journal)) n
-  where
-    chosen : Bool → Reported
-    chosen b = cond b (record { told = bare 0; after = startWorld tiles count operations journal }) (record { told = bare 1; after = world (fresh 0) tiles operations journal })
+-- a start is refused by 1, and then by 9 where the journal has no room for its rule; that gives the empty session, by the first rule, and touches nothing
+module _ (r : Rule) (tiles : List ℕ) (count : ℕ) (operations journal : List ℕ) where
+  pub start-one-exact : (startCall r tiles count operations journal .told .number ≡ 1) ↔ (soundB (startWorld r tiles count operations journal) ≡ false)
+  unfolding startCall
+  start-one-exact = told-of-start (soundB (startWorld r tiles count operations journal)) (ltb (length journal) (length (ruleBytes r))) .0
 
-    go : (b : Bool) → chosen b .told .number ≢ 0 → chosen b ≡ chosen false
-    go true h = absurd (h refl)
-    go false h = refl
+  pub start-nine-exact : (startCall r tiles count operations journal .told .number ≡ 9)
+      ↔ ((soundB (startWorld r tiles count operations journal) ≡ true) × (length journal < length (ruleBytes r)))
+  unfolding startCall
+  start-nine-exact =
+      let nine = told-of-start (soundB (startWorld r tiles count operations journal)) (ltb (length journal) (length (ruleBytes r))) .1 in
+      (λ e. let x = nine .0 e in (x .0, ltb-true _ _ (x .1)), λ x. nine .1 (x .0, lt-ltb _ _ (x .1)))
+
+  pub start-refused : startCall r tiles count operations journal .told .number ≢ 0
+      → ((startCall r tiles count operations journal .told ≡ bare 1) ⊎ (startCall r tiles count operations journal .told ≡ bare 9))
+      × (startCall r tiles count operations journal .after ≡ world (fresh Alone 0) tiles operations journal)
+  unfolding startCall
+  start-refused n = (
+    start-numbers (soundB (startWorld r tiles count operations journal)) (ltb (length journal) (length (ruleBytes r))) n,
+    ap (λ b. cond b (ruledWorld r tiles count operations journal) (world (fresh Alone 0) tiles operations journal)) (ne-eqb (startCall r tiles count operations journal .told .number) 0 n),
+  )
+
+  -- one that is done leaves the session of the rule, and writes the bytes of its rule in front and no byte elsewhere
+  pub start-writes : startCall r tiles count operations journal .told .number ≡ 0
+      → (startCall r tiles count operations journal .after ≡ ruledWorld r tiles count operations journal)
+      × (startCall r tiles count operations journal .after .journal ≡ ruleBytes r ++ drop (length (ruleBytes r)) journal)
+  start-writes n =
+      let o = both _ _ (sym (start-told r tiles count operations journal) ∙ eq-eqb _ 0 n) in
+      let l = ltb-false (length journal) (length (ruleBytes r)) (not-true _ (o .1)) in
+      let is : startCall r tiles count operations journal .after ≡ ruledWorld r tiles count operations journal =
+      ap (λ (x : Reported). x .after) (start-is r tiles count operations journal (o .0) l) in
+      let z : 0 + length (ruleBytes r) ≡ length (ruleBytes r) = omega arith in
+      (is, ap (λ (v : World). v .journal) is ∙ sets-eq (ruleBytes r) journal 0 (omega arith) ∙ ap (λ n. ruleBytes r ++ drop n journal) z)
 
 -- the test of soundness says what its sentences say
 pub sound-exact : (w : World) → (soundB w ≡ true) ↔ Sound w
 sound-exact w = (sound-is w, is-sound w)
+
+-- and, where a job fails as one, those of the request
+pub settled-exact : (t es : List ℕ) → AllSettled Together t es ↔ Worded t es
+settled-exact t es = (settled-worded t es, worded-settled t es)
 
 -- 2. ON EVERY SOUND WORLD, HOWEVER IT CAME ABOUT
 -- an accepted call leaves a sound world (the world was sound, or it would be refused by 1)
@@ -103,6 +138,7 @@ accepted-keeps w c full ok =
     subst (Keeps w) (sym (left-carried w c ok))
     (record {
       still-sound = is-sound (carried w e) (carried-sound w e full p);
+      same-rule = refl;
       all-marks = after-stands w e full p .all-jobs;
       same-tiles = carried-places w e full p;
       same-operations = carried-slots w e full p;
@@ -117,7 +153,7 @@ call-keeps w c full sound = go (eqb (call w c .told .number) 0) refl
     go true e = accepted-keeps w c full (eqb-true (call w c .told .number) 0 e)
     go false e =
         subst (Keeps w) (sym (refusal-changes-nothing w c (eqb-false (call w c .told .number) 0 e) .0))
-        (record { still-sound = sound; all-marks = full; same-tiles = refl; same-operations = refl; same-journal = refl })
+        (record { still-sound = sound; same-rule = refl; all-marks = full; same-tiles = refl; same-operations = refl; same-journal = refl })
 
 -- an accepted call writes its record after the used journal bytes, and no byte elsewhere
 pub accepted-writes : (w : World) (c : Call) → length (w .session .marks) ≡ 64 → call w c .told .number ≡ 0
@@ -134,12 +170,44 @@ ends-accepted w job full sound is-open =
     let j = le-ltb 63 job (omega arith) in
     (rw (sound, j, is-open), rw (sound, j, is-open))
 
--- held is given just where an entry does not commute with the new operation, and names the job of the first
+-- held is given just where an entry holds the new operation by the session's rule, and names the job of the first
 pub held-names-first : (w : World) (job : ℕ) (p : Procedure) (a : Address) (k holder : ℕ)
     → soundB w ≡ true → job ≤ 63 → isOpen (state w) job ≡ true → keyOf a ≡ some k
     → (operationCall w job p a .told ≡ record { number = 6; answer = 0; holder = holder })
-    ↔ FirstHolder alone (begun job p (addressCall a .key) (usedTiles w)) (map opIn (usedOperations w)) holder
+    ↔ FirstHolder (ruleOf (w .session .rule)) (begun job p (addressCall a .key) (usedTiles w)) (map opIn (usedOperations w)) holder
 held-names-first w job p a k holder sound small is-open has-key = held-names w job p a k sound small is-open has-key holder
+
+-- where a job fails as one: just where an unfinished entry of another job changed that tile
+pub held-own : (w : World) (job : ℕ) (p : Procedure) (a : Address) (k : ℕ) → w .session .rule ≡ Together
+    → soundB w ≡ true → job ≤ 63 → isOpen (state w) job ≡ true → keyOf a ≡ some k
+    → (operationCall w job p a .told .number ≡ 6) ↔ ChangedByOther job k (usedOperations w)
+held-own w job p a k rule sound small is-open has-key = held-by-other w job p a k sound small is-open has-key rule
+
+-- and 7 just where no entry holds it, it needs a place by the session's rule, and as many are spoken for as there are
+pub room-given : (w : World) (job : ℕ) (p : Procedure) (a : Address) (k : ℕ)
+    → soundB w ≡ true → job ≤ 63 → isOpen (state w) job ≡ true → keyOf a ≡ some k
+    → (operationCall w job p a .told .number ≡ 7)
+    ↔ ((heldBy (ruleOf (w .session .rule)) (state w .book) job p (addressCall a .key) ≡ none)
+    × (needsPlace (ruleOf (w .session .rule)) (state w .book .table) (begun job p (addressCall a .key) (usedTiles w)) ≡ true)
+    × (spokenFor (ruleOf (w .session .rule)) (state w .book) ≡ length (w .tiles)))
+room-given w job p a k sound small is-open has-key = room-told w job p a k sound small is-open has-key
+
+-- where a job fails as one: just where it is an ins of an absent tile that is not counted, and the tiles with those that are counted take all places
+pub room-own : (w : World) (job : ℕ) (p : Procedure) (a : Address) (k : ℕ) → w .session .rule ≡ Together
+    → soundB w ≡ true → job ≤ 63 → isOpen (state w) job ≡ true → keyOf a ≡ some k
+    → (operationCall w job p a .told .number ≡ 7) ↔ NoRoomByJob w job p k
+room-own w job p a k rule sound small is-open has-key = room-by-job w job p a k sound small is-open has-key rule
+
+-- and 0 just where no entry holds it, it finds a place, and there is an entry's place and the bytes
+pub accepted-given : (w : World) (job : ℕ) (p : Procedure) (a : Address) (k : ℕ)
+    → soundB w ≡ true → job ≤ 63 → isOpen (state w) job ≡ true → keyOf a ≡ some k
+    → (operationCall w job p a .told .number ≡ 0)
+    ↔ ((heldBy (ruleOf (w .session .rule)) (state w .book) job p (addressCall a .key) ≡ none)
+    × (needsPlace (ruleOf (w .session .rule)) (state w .book .table) (begun job p (addressCall a .key) (usedTiles w)) ≡ true
+    → spokenFor (ruleOf (w .session .rule)) (state w .book) ≢ length (w .tiles))
+    × (w .session .operations < length (w .operations))
+    × (10 + 4 * openMarks (w .session .marks) ≤ freeBytes w))
+accepted-given w job p a k sound small is-open has-key = accepted-told w job p a k sound small is-open has-key
 
 -- 3. A REPLAY OF ANY BYTES
 -- the bytes of a whole record are the encoding of what was read, so that they can be read in no other way
@@ -159,8 +227,12 @@ pub replay-refused : (journal tiles : List ℕ) (count : ℕ) (operations : List
 replay-refused journal tiles count operations n = refused-is journal tiles count operations n
 
 pub replay-refused-exact : (journal tiles : List ℕ) (count : ℕ) (operations : List ℕ)
-    → (replayCall journal tiles count operations .number ≡ 1) ↔ ((soundB (startWorld tiles count operations []) ≡ false) ⊎ (65536 < length journal))
+    → (replayCall journal tiles count operations .number ≡ 1) ↔ ((soundB (startWorld Alone tiles count operations []) ≡ false) ⊎ (65536 < length journal))
 replay-refused-exact journal tiles count operations = refused-just journal tiles count operations
+
+-- it runs by the rule that the journal begins with, and by the first where it begins with none
+pub replay-runs-by : (journal tiles : List ℕ) (count : ℕ) (operations : List ℕ) → stopped journal tiles count operations .reached .rule ≡ ruleIn (readAt journal 0)
+replay-runs-by journal tiles count operations = runs-by journal tiles count operations
 
 -- it stops at the end or a cut tail with 0, at a malformed record with 10, at one that is refused with 11, and else at an answer that differs with 12
 pub stops-because : (journal tiles : List ℕ) (count : ℕ) (operations : List ℕ) →
@@ -176,74 +248,53 @@ pub stops-as-cut : (journal tiles : List ℕ) (count : ℕ) (operations : List �
     ≡ record { number = 0; offset = r .offset; undone = r .undone; count = r .count; tiles = r .tiles; operations = r .operations }
 stops-as-cut journal tiles count operations n = stops-there journal tiles count operations n
 
--- what it leaves, a start takes
-pub replay-starts : (journal tiles : List ℕ) (count : ℕ) (operations operations′ journal′ : List ℕ) →
+-- what it leaves, a start by either rule takes
+pub replay-starts : (rule : Rule) (journal tiles : List ℕ) (count : ℕ) (operations operations′ journal′ : List ℕ) →
     let r = replayCall journal tiles count operations in
-    r .number ≢ 1 → 1 ≤ length operations′ → length operations′ ≤ 1024 → length journal′ ≤ 65536
-    → startCall (r .tiles) (r .count) operations′ journal′ .told ≡ bare 0
-replay-starts journal tiles count operations operations′ journal′ n a b c =
+    r .number ≢ 1 → 1 ≤ length operations′ → length operations′ ≤ 1024 → length journal′ ≤ 65536 → length (ruleBytes rule) ≤ length journal′
+    → startCall rule (r .tiles) (r .count) operations′ journal′ .told ≡ bare 0
+replay-starts rule journal tiles count operations operations′ journal′ n a b c d =
     let r = replayCall journal tiles count operations in
-    ap (λ (x : Reported). x .told) (start-is (r .tiles) (r .count) operations′ journal′ (starts-left journal tiles count operations operations′ journal′ n a b c))
+    ap (λ (x : Reported). x .told) (start-is rule (r .tiles) (r .count) operations′ journal′ (starts-left journal tiles count operations rule operations′ journal′ n a b c) d)
+
+-- a rule is read in front alone, as 5, 0, 1, 2
+pub rule-in-front : (journal : List ℕ) (at next : ℕ) → readAt journal at ≡ Ruled next → (at ≡ 0) × (next ≡ 4) × (take 4 journal ≡ ruleBytes Together)
+unfolding readAt
+rule-in-front journal at next e =
+    let f = in-front at next (drop at journal) e in
+    let whole : journal ≡ 5 ∷ 0 ∷ 1 ∷ 2 ∷ f .behind = ap (λ x. drop x journal) (sym (f .first-place)) ∙ f .is-rule in
+    (f .first-place, f .next-place, ap (take 4) whole)
 
 -- 4. FROM A START
-module _ {tiles : List ℕ} {count : ℕ} {operations journal : List ℕ} {cs : Log Call} {w : World} (from : From tiles count operations journal cs w) where
-  -- the starting tiles; and the operations that the calls keep, with a new one among them
+-- by either rule
+module _ {r : Rule} {tiles : List ℕ} {count : ℕ} {operations journal : List ℕ} {cs : Log Call} {w : World} (from : From r tiles count operations journal cs w) where
   abbrev start-tiles : List ℕ
   start-tiles = take count tiles
 
-  abbrev with-it : ℕ → Procedure → Address → Log Op
-  with-it job p a = kept start-tiles (history (cs ▷ operating job p a))
-
-  there : Arrived tiles count operations journal (history cs) w
+  there : Arrived r tiles count operations journal (history cs) w
   there = arrived from
 
   -- the session follows the history
-  pub reached : Reached start-tiles (history cs) w
+  pub reached : Reached r start-tiles (history cs) w
   reached = arrived-reached there
 
-  -- an operation of an open job on an address with a key: held just where the history with it added would not be strict
-  pub held-exact : (job : ℕ) (p : Procedure) (a : Address) (k : ℕ) → opened job (history cs) ≡ true → keyOf a ≡ some k
-      → (operationCall w job p a .told .number ≡ 6) ↔ (Strict alone start-tiles (with-it job p a) → ⊥)
-  held-exact job p a k o e =
-      held-just start-tiles (history cs) w (there .start-stands .ascending) reached (there .is-sound-there) job p a k o e
+  -- which is strict, and every choice of what fails as one leaves tiles that fit the table
+  pub stays-strict : Strict (ruleOf r) start-tiles (kept start-tiles (history cs))
+  stays-strict = admitted-strict (ruleOf r) start-tiles (history cs) (there .start-stands .ascending) (reached .admitted)
 
-  -- and, where that is strict, refused for want of tile room just where some way of keeping or dropping the unfinished operations,
-  -- it among them, needs more tiles than the table has
-  pub room-exact : (job : ℕ) (p : Procedure) (a : Address) (k : ℕ) → opened job (history cs) ≡ true → keyOf a ≡ some k
-      → Strict alone start-tiles (with-it job p a)
-      → (operationCall w job p a .told .number ≡ 7)
-      ↔ ((chosen : Log Op) × Choice (with-it job p a) chosen × (length tiles < length (run start-tiles chosen)))
-  room-exact job p a k o e strict =
-      subst
-      (λ N.
-      (operationCall w job p a .told .number ≡ 7)
-      ↔ ((chosen : Log Op) × Choice (with-it job p a) chosen × (N < length (run start-tiles chosen))))
-      (there .same-places)
-      (room-just start-tiles (history cs) w (there .start-stands .ascending) reached (there .is-sound-there) job p a k o e strict)
-
-  -- accepted just where it stays strict, no such way needs more tiles than the table has, and there is an entry's place and the bytes
-  pub accepted-exact : (job : ℕ) (p : Procedure) (a : Address) (k : ℕ) → opened job (history cs) ≡ true → keyOf a ≡ some k
-      → (operationCall w job p a .told .number ≡ 0)
-      ↔ (Strict alone start-tiles (with-it job p a)
-      × ((chosen : Log Op) → Choice (with-it job p a) chosen → length (run start-tiles chosen) ≤ length tiles)
-      × (w .session .operations < length (w .operations))
-      × (10 + 4 * openMarks (w .session .marks) ≤ freeBytes w))
-  accepted-exact job p a k o e =
-      subst
-      (λ N.
-      (operationCall w job p a .told .number ≡ 0)
-      ↔ (Strict alone start-tiles (with-it job p a)
-      × ((chosen : Log Op) → Choice (with-it job p a) chosen → length (run start-tiles chosen) ≤ N)
-      × (w .session .operations < length (w .operations))
-      × (10 + 4 * openMarks (w .session .marks) ≤ freeBytes w)))
-      (there .same-places)
-      (accepted-just start-tiles (history cs) w (there .start-stands .ascending) reached (there .is-sound-there) job p a k o e)
+  pub stays-fitting : (d : ℕ → Bool) → length (run start-tiles (without (inGroups (ruleOf r) d) (kept start-tiles (history cs)))) ≤ length tiles
+  stays-fitting d =
+      let a = room-is-enough (ruleOf r) start-tiles (history cs) (there .start-stands .ascending) (reached .admitted) d in
+      let b = there .is-sound-there .tables .room in
+      let c = ap₂ (λ q m. spokenFor (ruleOf q) m) (reached .by-rule) (reached .book-there) in
+      let e = there .same-places in
+      omega arith
 
   -- every job has its mark, and the tables keep their lengths
   pub all-marks : length (w .session .marks) ≡ 64
   all-marks =
       ap (λ (x : State). length (x .marks)) (there .holds-state)
-      ∙ stands (length tiles) (length operations) start-tiles (there .start-stands) (history cs) (there .taken) .all-jobs
+      ∙ stands (length tiles) (length operations) r start-tiles (there .start-stands) (history cs) (there .taken) .all-jobs
 
   pub same-lengths : (length (w .tiles) ≡ length tiles) × (length (w .operations) ≡ length operations)
   same-lengths = (there .same-places, there .same-slots)
@@ -253,12 +304,12 @@ module _ {tiles : List ℕ} {count : ℕ} {operations journal : List ℕ} {cs : 
   answers c ok =
       told-done w c ok
       ∙ ap (λ x. done (answerTo x (event c))) (there .holds-state)
-      ∙ ap done (answer-is _ _ start-tiles (there .start-stands) (history cs) (there .taken) (event c))
+      ∙ ap done (answer-is _ _ r start-tiles (there .start-stands) (history cs) (there .taken) (event c))
 
   pub effects : (usedTiles w ≡ tilesAfter start-tiles (history cs)) × (map opIn (usedOperations w) ≡ unfinished (kept start-tiles (history cs)))
   effects = (
-    ap (λ (x : State). x .book .tiles) (there .holds-state) ∙ tiles-are _ _ start-tiles (there .start-stands) (history cs) (there .taken),
-    ap (λ (x : State). x .book .table) (there .holds-state) ∙ table-is _ _ start-tiles (there .start-stands) (history cs) (there .taken),
+    ap (λ (x : State). x .book .tiles) (there .holds-state) ∙ tiles-are _ _ r start-tiles (there .start-stands) (history cs) (there .taken),
+    ap (λ (x : State). x .book .table) (there .holds-state) ∙ table-is _ _ r start-tiles (there .start-stands) (history cs) (there .taken),
   )
 
   -- the used bytes, read record after record, are the calls with their answers and keys, and then the end
@@ -275,3 +326,60 @@ module _ {tiles : List ℕ} {count : ℕ} {operations journal : List ℕ} {cs : 
   -- and every cut has such records
   pub cut-reads : (n : ℕ) → (rs : List Record) × (end : ℕ) × Reads (take n (usedJournal w)) 0 rs end × Stops (readAt (take n (usedJournal w)) end)
   cut-reads n = cut-records there n
+
+  -- where a job fails as one, the rule stands in front of them; else the first record does
+  pub journal-ruled : take (length (ruleBytes r)) (usedJournal w) ≡ ruleBytes r
+  journal-ruled = ap (take (length (ruleBytes r))) (there .holds-journal) ∙ rule-first r start-tiles (history cs)
+
+-- by the first rule
+module _ {tiles : List ℕ} {count : ℕ} {operations journal : List ℕ} {cs : Log Call} {w : World} (from : From Alone tiles count operations journal cs w) where
+  -- the starting tiles; and the operations that the calls keep, with a new one among them
+  abbrev first-tiles : List ℕ
+  first-tiles = take count tiles
+
+  abbrev with-it : ℕ → Procedure → Address → Log Op
+  with-it job p a = kept first-tiles (history (cs ▷ operating job p a))
+
+  there-first : Arrived Alone tiles count operations journal (history cs) w
+  there-first = arrived from
+
+  reached-first : Reached Alone first-tiles (history cs) w
+  reached-first = arrived-reached there-first
+
+  -- an operation of an open job on an address with a key: held just where the history with it added would not be strict
+  pub held-exact : (job : ℕ) (p : Procedure) (a : Address) (k : ℕ) → opened job (history cs) ≡ true → keyOf a ≡ some k
+      → (operationCall w job p a .told .number ≡ 6) ↔ (Strict alone first-tiles (with-it job p a) → ⊥)
+  held-exact job p a k o e =
+      held-just first-tiles (history cs) w (there-first .start-stands .ascending) reached-first (there-first .is-sound-there) job p a k o e
+
+  -- and, where that is strict, refused for want of tile room just where some way of keeping or dropping the unfinished operations,
+  -- it among them, needs more tiles than the table has
+  pub room-exact : (job : ℕ) (p : Procedure) (a : Address) (k : ℕ) → opened job (history cs) ≡ true → keyOf a ≡ some k
+      → Strict alone first-tiles (with-it job p a)
+      → (operationCall w job p a .told .number ≡ 7)
+      ↔ ((chosen : Log Op) × Choice (with-it job p a) chosen × (length tiles < length (run first-tiles chosen)))
+  room-exact job p a k o e strict =
+      subst
+      (λ N.
+      (operationCall w job p a .told .number ≡ 7)
+      ↔ ((chosen : Log Op) × Choice (with-it job p a) chosen × (N < length (run first-tiles chosen))))
+      (there-first .same-places)
+      (room-just first-tiles (history cs) w (there-first .start-stands .ascending) reached-first (there-first .is-sound-there) job p a k o e strict)
+
+  -- accepted just where it stays strict, no such way needs more tiles than the table has, and there is an entry's place and the bytes
+  pub accepted-exact : (job : ℕ) (p : Procedure) (a : Address) (k : ℕ) → opened job (history cs) ≡ true → keyOf a ≡ some k
+      → (operationCall w job p a .told .number ≡ 0)
+      ↔ (Strict alone first-tiles (with-it job p a)
+      × ((chosen : Log Op) → Choice (with-it job p a) chosen → length (run first-tiles chosen) ≤ length tiles)
+      × (w .session .operations < length (w .operations))
+      × (10 + 4 * openMarks (w .session .marks) ≤ freeBytes w))
+  accepted-exact job p a k o e =
+      subst
+      (λ N.
+      (operationCall w job p a .told .number ≡ 0)
+      ↔ (Strict alone first-tiles (with-it job p a)
+      × ((chosen : Log Op) → Choice (with-it job p a) chosen → length (run first-tiles chosen) ≤ N)
+      × (w .session .operations < length (w .operations))
+      × (10 + 4 * openMarks (w .session .marks) ≤ freeBytes w)))
+      (there-first .same-places)
+      (accepted-just first-tiles (history cs) w (there-first .start-stands .ascending) reached-first (there-first .is-sound-there) job p a k o e)
