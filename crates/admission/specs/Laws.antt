@@ -1,22 +1,22 @@
 -- What the tables of a sound world are, and what each verdict rests on
 use mathlib.Core.Bool.{Bool, _&&_, cond, false, true}
-use mathlib.Core.List.{List, [], _∷_, map}
+use mathlib.Core.List.{map}
 use mathlib.Core.Option.{Option, none, some}
 use mathlib.Core.Path.{_∙_, _≡_, ap, refl, subst, sym}
 use Prim.Native.Nat.{_+_, _≤_, ℕ}
+use native.Mathlib.Omega.{arith}
 use lib.Dec.{eqb}
 use lib.ListN.{length, length-map}
 use lib.Seq.{length-take-le}
-use Rattle.entries.specs.Laws.{reserved-three}
-use Rattle.entries.specs.Table.{EntryTable, countThree}
+use Rattle.entries.specs.Table.{EntryTable}
+use Rattle.service.specs.Admission.{State, ruleOf}
 use Rattle.service.specs.Entry.{opIn}
 use Rattle.service.specs.Laws.Storing.{padded-zeros}
 use Rattle.service.specs.Sound.{Tabled}
 use Rattle.service.specs.World.{World, state, usedOperations, usedTiles}
-use Rattle.strict.specs.Book.{Book, heldBy, needsPlace, spokenFor}
-use Rattle.strict.specs.Commutativity.{holder, holds}
-use Rattle.strict.specs.Operations.{Op, begun}
-use Rattle.strict.specs.Strict.{alone}
+use Rattle.strict.specs.Book.{besides, counted, heldBy, needsPlace, spokenFor}
+use Rattle.strict.specs.Laws.Room.{room-either}
+use Rattle.strict.specs.Operations.{begun}
 use Rattle.strict.specs.declared.Procedure.{Procedure}
 use Rattle.tiles.specs.Laws.{zeros-table}
 use Rattle.tiles.specs.Table.{TileTable}
@@ -38,62 +38,60 @@ module _ (w : World) (o : Tabled w) where
   operations-count = length-map (usedOperations w) opIn ∙ length-take-le (w .session .operations) (w .operations) (o .operations-fit)
 
   -- the places that are spoken for, as the code counts them
-  pub spoken-for : spokenFor (state w .book) ≡ w .session .tiles + countThree (usedOperations w)
-  spoken-for = (λ i. tiles-count i + reserved-three (usedOperations w) i)
+  pub spoken-for : spokenFor (ruleOf (w .session .rule)) (state w .book)
+      ≡ w .session .tiles + besides (ruleOf (w .session .rule)) (usedTiles w) (map opIn (usedOperations w))
+  spoken-for = ap (λ n. n + besides (ruleOf (w .session .rule)) (usedTiles w) (map opIn (usedOperations w))) tiles-count
 
-  pub room-there : w .session .tiles + countThree (usedOperations w) ≤ length (w .tiles)
-  room-there = rw (← spoken-for) (o .room)
+  -- there is room for the tiles with those that are counted, whichever the rule
+  pub room-there : length (usedTiles w) + counted (usedTiles w) (map opIn (usedOperations w)) ≤ length (w .tiles)
+  room-there = omega (arith, room-either (ruleOf (w .session .rule)) (state w .book), o .room)
 
 -- each verdict
-module _ (places slots : ℕ) (m : Book) (p : Procedure) (k : ℕ) where
+module _ (places slots : ℕ) (s : State) (job : ℕ) (p : Procedure) (k : ℕ) where
+  abbrev pub holding : Option ℕ
+  holding = heldBy (ruleOf (s .rule)) (s .book) job p k
+
   abbrev pub lacksPlace : Bool
-  lacksPlace = needsPlace (begun 0 p k (m .tiles)) && eqb (spokenFor m) places
+  lacksPlace = needsPlace (ruleOf (s .rule)) (s .book .table) (begun job p k (s .book .tiles)) && eqb (spokenFor (ruleOf (s .rule)) (s .book)) places
 
-  pub held : (job : ℕ) → heldBy alone m 0 p k ≡ some job → Held job ≡ verdictOf places slots m p k
+  abbrev pub lacksSlot : Bool
+  lacksSlot = eqb (length (s .book .table)) slots
+
+  pub held : (by : ℕ) → holding ≡ some by → Held by ≡ verdictOf places slots s job p k
   unfolding verdictOf
-  held job h = rw h
+  held by h = rw h
 
-  module _ (free : heldBy alone m 0 p k ≡ none) where
-    pub no-place : lacksPlace ≡ true → NoTileRoom ≡ verdictOf places slots m p k
+  module _ (free : holding ≡ none) where
+    pub no-place : lacksPlace ≡ true → NoTileRoom ≡ verdictOf places slots s job p k
     unfolding verdictOf
     no-place h = rw (free, h)
 
     module _ (place : lacksPlace ≡ false) where
-      pub no-slot : eqb (length (m .table)) slots ≡ true → NoOperationRoom ≡ verdictOf places slots m p k
+      pub no-slot : lacksSlot ≡ true → NoOperationRoom ≡ verdictOf places slots s job p k
       unfolding verdictOf
       no-slot h = rw (free, place, h)
 
-      pub admitted : eqb (length (m .table)) slots ≡ false → Admitted ≡ verdictOf places slots m p k
+      pub admitted : lacksSlot ≡ false → Admitted ≡ verdictOf places slots s job p k
       unfolding verdictOf
       admitted h = rw (free, place, h)
 
--- what a verdict means
-abbrev pub Means : ℕ → ℕ → Book → Procedure → ℕ → Verdict → Type 0
-Means places slots m p k (Held job) = heldBy alone m 0 p k ≡ some job
-Means places slots m p k NoTileRoom = (heldBy alone m 0 p k ≡ none) × (lacksPlace places slots m p k ≡ true)
-Means places slots m p k NoOperationRoom =
-    (heldBy alone m 0 p k ≡ none) × (lacksPlace places slots m p k ≡ false) × (eqb (length (m .table)) slots ≡ true)
-Means places slots m p k Admitted =
-    (heldBy alone m 0 p k ≡ none) × (lacksPlace places slots m p k ≡ false) × (eqb (length (m .table)) slots ≡ false)
+  -- what a verdict means
+  abbrev pub Means : Verdict → Type 0
+  Means (Held by) = holding ≡ some by
+  Means NoTileRoom = (holding ≡ none) × (lacksPlace ≡ true)
+  Means NoOperationRoom = (holding ≡ none) × (lacksPlace ≡ false) × (lacksSlot ≡ true)
+  Means Admitted = (holding ≡ none) × (lacksPlace ≡ false) × (lacksSlot ≡ false)
 
-pub verdict-means : (places slots : ℕ) (m : Book) (p : Procedure) (k : ℕ) → Means places slots m p k (verdictOf places slots m p k)
-unfolding verdictOf
-verdict-means places slots m p k = go (heldBy alone m 0 p k) refl (lacksPlace places slots m p k) refl (eqb (length (m .table)) slots) refl
-  where
-    go : (o : Option ℕ) → heldBy alone m 0 p k ≡ o → (a : Bool) → lacksPlace places slots m p k ≡ a → (b : Bool) → eqb (length (m .table)) slots ≡ b
-        → Means places slots m p k (byHolder o (cond a NoTileRoom (cond b NoOperationRoom Admitted)))
-    go (some job) x a y b z = x
-    go none x true y b z = (x, y)
-    go none x false y true z = (x, y, z)
-    go none x false y false z = (x, y, z)
+  verdict-means : Means (verdictOf places slots s job p k)
+  unfolding verdictOf
+  verdict-means = go holding refl lacksPlace refl lacksSlot refl
+    where
+      go : (o : Option ℕ) → holding ≡ o → (a : Bool) → lacksPlace ≡ a → (b : Bool) → lacksSlot ≡ b
+          → Means (byHolder o (cond a NoTileRoom (cond b NoOperationRoom Admitted)))
+      go (some by) x a y b z = x
+      go none x true y b z = (x, y)
+      go none x false y true z = (x, y, z)
+      go none x false y false z = (x, y, z)
 
-pub verdict-seen : (places slots : ℕ) (m : Book) (p : Procedure) (k : ℕ) (v u : Verdict) → v ≡ verdictOf places slots m p k → v ≡ u → Means places slots m p k u
-verdict-seen places slots m p k v u is seen = subst (Means places slots m p k) (sym is ∙ seen) (verdict-means places slots m p k)
-
--- the holder does not depend on who asks
-any-job : (job job′ : ℕ) (p : Procedure) (k : ℕ) (t : List ℕ) (us : List Op) → holder alone (begun job p k t) us ≡ holder alone (begun job′ p k t) us
-any-job job job′ p k t [] = refl
-any-job job job′ p k t (u ∷ us) = ap (cond (holds alone (begun job p k t) u) (some (u .job))) (any-job job job′ p k t us)
-
-pub same-holder : (m : Book) (job : ℕ) (p : Procedure) (k : ℕ) → heldBy alone m job p k ≡ heldBy alone m 0 p k
-same-holder m job p k = any-job job 0 p k (m .tiles) (m .table)
+  pub verdict-seen : (v u : Verdict) → v ≡ verdictOf places slots s job p k → v ≡ u → Means u
+  verdict-seen v u is seen = subst Means (sym is ∙ seen) verdict-means

@@ -6,8 +6,10 @@ ghost use lib.Dec.{eqb};
 ghost use lib.ListN.{length};
 ghost use Rattle.strict.specs.Book.{spokenFor};
 ghost use Rattle.strict.specs.Operations as report;
+ghost use Rattle.service.specs.Admission.{ruleOf};
 ghost use Rattle.service.specs.Sound.{Tabled};
 ghost use Rattle.service.specs.World.{state, world};
+ghost use Rattle.rules.specs.Rules.{wantsPlace};
 ghost use Rattle.admission.specs.Verdicts.{verdictOf};
 use entries::Holder;
 use service::Session;
@@ -58,17 +60,19 @@ pub fn answer(procedure: Procedure, found: bool) -> bool
     }
 }
 
-// Whether an operation of this kind needs a tile place and all are spoken for.
-fn lacks_place(session: Session, tiles: &[u32], operations: &[u64], kind: usize) -> bool
+// Whether an operation of this kind on the tile `key` needs a tile place and all are spoken for.
+fn lacks_place(session: Session, tiles: &[u32], operations: &[u64], kind: usize, key: u32) -> bool
     requires { ⌜ Tabled (world session (now tiles) (now operations) []) ⌝ }
-    ensures { λ r. ⌜ r ≡ (eqb kind 1 && eqb (spokenFor (state (world session (now (tiles .entry)) (now (operations .entry)) []) .book)) (length (now (tiles .entry)))) ⌝ }
+    ensures { λ r. ⌜ r ≡ (wantsPlace (ruleOf (session .rule)) (state (world session (now (tiles .entry)) (now (operations .entry)) []) .book .table) kind key
+        && eqb (spokenFor (ruleOf (session .rule)) (state (world session (now (tiles .entry)) (now (operations .entry)) []) .book)) (length (now (tiles .entry)))) ⌝ }
 {
-    if kind != 1 {
-        return false;
-    }
+    let rule = session.rule;
     let count = session.tiles;
     let used = session.operations;
-    count + entries::count_reserved(operations, used) == tiles.len()
+    if !rules::needs_place(rule, operations, used, kind, key) {
+        return false;
+    }
+    count + rules::count_besides(session, tiles, operations) == tiles.len()
 }
 
 // Judges an operation and writes nothing: first the holder, then tile room, then operation room.
@@ -76,21 +80,23 @@ pub fn admit(
     session: Session,
     tiles: &[u32],
     operations: &[u64],
+    job: u8,
     procedure: Procedure,
     key: u32,
 ) -> Verdict
     requires { ⌜ Tabled (world session (now tiles) (now operations) []) ⌝ }
     ensures { λ r. ⌜ r ≡ verdictOf (length (now (tiles .entry))) (length (now (operations .entry)))
-        (state (world session (now (tiles .entry)) (now (operations .entry)) []) .book) procedure key ⌝ }
+        (state (world session (now (tiles .entry)) (now (operations .entry)) [])) job procedure key ⌝ }
 {
+    let rule = session.rule;
     let count = session.tiles;
     let used = session.operations;
     let kind = kind(procedure, tiles::is_present(tiles, count, key));
-    let holder = entries::first_holder(operations, used, kind, key);
+    let holder = rules::first_holder(rule, operations, used, job, kind, key);
     if let Holder::At(place) = holder {
         return Verdict::Held(entries::job_in(operations[place]));
     }
-    if lacks_place(session, tiles, operations, kind) {
+    if lacks_place(session, tiles, operations, kind, key) {
         return Verdict::NoTileRoom;
     }
     if used == operations.len() {

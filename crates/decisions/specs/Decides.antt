@@ -25,8 +25,8 @@ abbrev pub lastRefusals : World → ℕ → Procedure → ℕ → List Refusal
 lastRefusals w job p k =
     admission (length (w .tiles)) (length (w .operations)) (state w) job p k ++ (refuse 9 (ltb (freeBytes w) (10 + 4 * openMarks (w .session .marks))) ∷ [])
 
-abbrev pub Judges : World → Procedure → ℕ → Decision → Type 0
-Judges w p k d = (job : ℕ) → Settles (lastRefusals w job p k) k d
+abbrev pub Judges : World → ℕ → Procedure → ℕ → Decision → Type 0
+Judges w job p k d = Settles (lastRefusals w job p k) k d
 
 abbrev pub Decides : World → ℕ → Procedure → Address → Decision → Type 0
 Decides w job p a d = Settles (operationRefusals w job p a) (addressCall a .key) d

@@ -6,7 +6,7 @@ use Prim.Native.Nat.{_*_, _+_, _<_, _≤_, ℕ}
 use lib.Dec.{eqb, ltb}
 use lib.ListN.{length}
 use borrow.Author.Tests.{eqb-true, le-ltb, lt-ltb, not-false}
-use Rattle.admission.specs.Laws.{Means, same-holder}
+use Rattle.admission.specs.Laws.{Means}
 use Rattle.admission.specs.declared.Verdict.the-variants.{Admitted, Held, NoOperationRoom, NoTileRoom}
 use Rattle.admission.specs.declared.Verdict.{Verdict}
 use Rattle.lists.specs.Truth.{never}
@@ -75,27 +75,27 @@ module _ (w : World) (job : ℕ) (t : Told) where
         open-done h = rw (sound, le-ltb 63 job small, closed, le-ltb (freeBytes w) (4 + 4 * (openMarks (w .session .marks) + 1)) h)
 
 -- AN OPERATION WITH A KEY
-module _ (w : World) (p : Procedure) (k : ℕ) where
+module _ (w : World) (job : ℕ) (p : Procedure) (k : ℕ) where
   abbrev pub Meaning : Verdict → Type 0
-  Meaning v = Means (length (w .tiles)) (length (w .operations)) (state w .book) p k v
+  Meaning v = Means (length (w .tiles)) (length (w .operations)) (state w) job p k v
 
   abbrev noBytes : Bool
   noBytes = ltb (freeBytes w) (10 + 4 * openMarks (w .session .marks))
 
-  pub judges-held : (j : ℕ) → Meaning (Held j) → Judges w p k (Refuse (reply.Held j))
-  judges-held j h job = (λ t. rw (same-holder (state w .book) job p k, h), refl)
+  pub judges-held : (by : ℕ) → Meaning (Held by) → Judges w job p k (Refuse (reply.Held by))
+  judges-held by h = (λ t. rw h, refl)
 
-  pub judges-no-place : Meaning NoTileRoom → Judges w p k (Refuse reply.NoTileRoom)
-  judges-no-place h job = (λ t. rw (same-holder (state w .book) job p k, h .0, h .1), refl)
+  pub judges-no-place : Meaning NoTileRoom → Judges w job p k (Refuse reply.NoTileRoom)
+  judges-no-place h = (λ t. rw (h .0, h .1), refl)
 
-  pub judges-no-slot : Meaning NoOperationRoom → Judges w p k (Refuse reply.NoOperationRoom)
-  judges-no-slot h job = (λ t. rw (same-holder (state w .book) job p k, h .0, h .1, h .2), refl)
+  pub judges-no-slot : Meaning NoOperationRoom → Judges w job p k (Refuse reply.NoOperationRoom)
+  judges-no-slot h = (λ t. rw (h .0, h .1, h .2), refl)
 
-  pub judges-no-bytes : Meaning Admitted → noBytes ≡ true → Judges w p k (Refuse reply.NoJournalRoom)
-  judges-no-bytes h n job = (λ t. rw (same-holder (state w .book) job p k, h .0, h .1, h .2, n), refl)
+  pub judges-no-bytes : Meaning Admitted → noBytes ≡ true → Judges w job p k (Refuse reply.NoJournalRoom)
+  judges-no-bytes h n = (λ t. rw (h .0, h .1, h .2, n), refl)
 
-  pub judges-perform : Meaning Admitted → noBytes ≡ false → Judges w p k (Perform k)
-  judges-perform h n job = (rw (same-holder (state w .book) job p k, h .0, h .1, h .2, n), refl)
+  pub judges-perform : Meaning Admitted → noBytes ≡ false → Judges w job p k (Perform k)
+  judges-perform h n = (rw (h .0, h .1, h .2, n), refl)
 
 -- what a list with a number for each refusal decides, it decides whatever follows it
 gate-refuses : (rs : List Refusal) (t u : Told) → eqb (t .number) 0 ≡ true → eqb (decided rs t .number) 0 ≡ false → decided rs t ≡ decided rs u
@@ -137,7 +137,7 @@ module _ (w : World) (job : ℕ) (p : Procedure) (a : Address) where
     pub decides-no-key : placed Refused ≡ addressCall a → Decides w job p a (Refuse reply.OutOfRange)
     decides-no-key h = (after-gate (placed Refused) h, refl)
 
-    pub decides-judged : (k : ℕ) (d : Decision) → placed (Key k) ≡ addressCall a → Judges w p k d → Decides w job p a d
-    decides-judged k (Refuse r) h j = (λ t. j job .0 t ∙ after-gate (placed (Key k)) h t, j job .1)
+    pub decides-judged : (k : ℕ) (d : Decision) → placed (Key k) ≡ addressCall a → Judges w job p k d → Decides w job p a d
+    decides-judged k (Refuse r) h j = (λ t. j .0 t ∙ after-gate (placed (Key k)) h t, j .1)
     decides-judged k (Perform n) h j =
-        (refused-append (endRefusals w job) rest (gate-passed gate is zero) (ap (λ (x : Placed). refused (following x)) (sym h) ∙ j job .0), j job .1 ∙ ap (λ (x : Placed). x .key) h)
+        (refused-append (endRefusals w job) rest (gate-passed gate is zero) (ap (λ (x : Placed). refused (following x)) (sym h) ∙ j .0), j .1 ∙ ap (λ (x : Placed). x .key) h)

@@ -138,13 +138,14 @@ fn judge(
     tiles: &[u32],
     operations: &[u64],
     journal: &[u8],
+    job: u8,
     procedure: Procedure,
     key: u32,
 ) -> Decision
     requires { ⌜ Sound (world session (now tiles) (now operations) (now journal)) ⌝ }
-    ensures { λ r. ⌜ Judges (world session (now (tiles .entry)) (now (operations .entry)) (now (journal .entry))) procedure key r ⌝ }
+    ensures { λ r. ⌜ Judges (world session (now (tiles .entry)) (now (operations .entry)) (now (journal .entry))) job procedure key r ⌝ }
 {
-    match admission::admit(session, tiles, operations, procedure, key) {
+    match admission::admit(session, tiles, operations, job, procedure, key) {
         Verdict::Held(holder) => Decision::Refuse(Reply::Held(holder)),
         Verdict::NoTileRoom => Decision::Refuse(Reply::NoTileRoom),
         Verdict::NoOperationRoom => Decision::Refuse(Reply::NoOperationRoom),
@@ -176,6 +177,6 @@ pub fn operation_decision(
     }
     match tile::address(address) {
         Located::Refused => Decision::Refuse(Reply::OutOfRange),
-        Located::Key(key) => judge(session, tiles, operations, journal, procedure, key),
+        Located::Key(key) => judge(session, tiles, operations, journal, job, procedure, key),
     }
 }

@@ -1,6 +1,6 @@
 -- The loop that undoes a job, from the last entry down
 use mathlib.Core.Bool.{cond}
-use mathlib.Core.List.{List, []}
+use mathlib.Core.List.{List, [], map}
 use mathlib.Core.Logic.{_≢_}
 use mathlib.Core.Path.{_∙_, _≡_, ap, sym}
 use Prim.Native.Nat.{_+_, _-_, _<_, _≤_, suc, ℕ}
@@ -9,20 +9,20 @@ use lib.Dec.{eqb}
 use lib.ListN.{drop, drop-of-length-le, getD, length, take}
 use lib.Seq.{drop-cons}
 use borrow.Author.Tests.{eq-eqb, ne-eqb}
-use Rattle.entries.specs.Table.{countThree}
+use Rattle.strict.specs.Book.{counted}
 use Rattle.service.specs.Calls.{padded}
-use Rattle.service.specs.Entry.{jobIn}
+use Rattle.service.specs.Entry.{jobIn, opIn}
 use Rattle.service.specs.Laws.Storing.{length-padded, used-padded}
 use Rattle.tiles.specs.Laws.{padded-table, used-length}
 use Rattle.tiles.specs.Table.{TileTable}
-use Rattle.engine.proofs.Laws.{three-from, undone-ascending, undone-fits}
+use Rattle.engine.proofs.Laws.{undone-ascending, undone-fits}
 use Rattle.engine.specs.Undoing.{recovered, undone}
 
 -- the entries es from i on have been undone
 pub record Undoing (tiles₀ : List ℕ) (count : ℕ) (es : List ℕ) (job : ℕ) (tiles : List ℕ) (left i : ℕ) : Type 0 where
   pub inside : i ≤ length es
   pub holds : tiles ≡ padded (length tiles₀) (undone job (drop i es) (take count tiles₀))
-  pub counted : left ≡ length (undone job (drop i es) (take count tiles₀))
+  pub number : left ≡ length (undone job (drop i es) (take count tiles₀))
 
 -- one entry more
 undone-from : (job i : ℕ) (es t : List ℕ) → 0 < i → i ≤ length es
@@ -32,28 +32,28 @@ undone-from job i es t some inside =
     ap (λ l. undone job l t) (drop-cons es (i - 1) 0 (omega arith))
     ∙ ap (λ n. cond (eqb job (jobIn (getD es (i - 1) 0))) (recovered (getD es (i - 1) 0) (undone job (drop n es) t)) (undone job (drop n es) t)) next
 
-module _ (tiles₀ : List ℕ) (count : ℕ) (es : List ℕ) (job : ℕ) (table : TileTable tiles₀ count) (room : count + countThree es ≤ length tiles₀) where
+module _ (tiles₀ : List ℕ) (count : ℕ) (es : List ℕ) (job : ℕ) (table : TileTable tiles₀ count) (room : length (take count tiles₀) + counted (take count tiles₀) (map opIn es) ≤ length tiles₀) where
   abbrev State : List ℕ → ℕ → ℕ → Type 0
   State tiles left i = Undoing tiles₀ count es job tiles left i
 
   pub begins : (i : ℕ) → length es ≡ i → State tiles₀ count i
   begins i all =
       let none : drop i es ≡ [] = drop-of-length-le es {i = i} (omega arith) in
-      record { inside = omega arith; holds = rw none (table .zeros-behind); counted = rw none (sym (used-length table)) }
+      record { inside = omega arith; holds = rw none (table .zeros-behind); number = rw none (sym (used-length table)) }
 
   fits : (i : ℕ) → length (undone job (drop i es) (take count tiles₀)) ≤ length tiles₀
-  fits i = omega (arith, undone-fits job (drop i es) (take count tiles₀) (table .ascending), three-from i es, used-length table)
+  fits i = omega (arith, undone-fits job i es (take count tiles₀) (table .ascending))
 
   module _ (tiles : List ℕ) (left i : ℕ) (s : State tiles left i) where
     pub used-now : take left tiles ≡ undone job (drop i es) (take count tiles₀)
-    used-now = rw (s .counted, s .holds) (used-padded (length tiles₀) (undone job (drop i es) (take count tiles₀)))
+    used-now = rw (s .number, s .holds) (used-padded (length tiles₀) (undone job (drop i es) (take count tiles₀)))
 
     pub same-places : length tiles ≡ length tiles₀
     same-places = ap length (s .holds) ∙ length-padded (length tiles₀) (undone job (drop i es) (take count tiles₀)) (fits i)
 
     pub table-now : TileTable tiles left
     table-now =
-        rw (s .counted, s .holds)
+        rw (s .number, s .holds)
         (padded-table (length tiles₀) (undone job (drop i es) (take count tiles₀)) (fits i) (undone-ascending job (drop i es) (take count tiles₀) (table .ascending)))
 
     module _ (e : ℕ) (some : 0 < i) (read : e ≡ getD es (i - 1) 0) where
@@ -76,10 +76,10 @@ module _ (tiles₀ : List ℕ) (count : ℕ) (es : List ℕ) (job : ℕ) (table 
           record {
             inside = omega arith;
             holds = done .1 ∙ ap (λ n. padded n (recovered e (take left tiles))) same-places ∙ ap (padded (length tiles₀)) (sym (taken own));
-            counted = done .0 ∙ ap length (sym (taken own));
+            number = done .0 ∙ ap length (sym (taken own));
           }
 
       pub passes : jobIn e ≢ job → State tiles left (i - 1)
       passes other =
           let inside = s .inside in
-          record { inside = omega arith; holds = s .holds ∙ ap (padded (length tiles₀)) (sym (passed other)); counted = s .counted ∙ ap length (sym (passed other)) }
+          record { inside = omega arith; holds = s .holds ∙ ap (padded (length tiles₀)) (sym (passed other)); number = s .number ∙ ap length (sym (passed other)) }

@@ -1,22 +1,24 @@
 -- Room for a tile, and what recoveries do to the tiles
-use mathlib.Core.Bool.{Bool, cond, false, true}
-use mathlib.Core.List.{List, [], _∷_}
+use mathlib.Core.Bool.{false}
+use mathlib.Core.List.{List, [], _∷_, map}
 use mathlib.Core.Logic.{_≢_}
-use mathlib.Core.Path.{_≡_}
+use mathlib.Core.Path.{_≡_, ap}
 use Prim.Native.Nat.{_+_, _<_, _≤_, suc, zero, ℕ}
 use native.Mathlib.Omega.{arith}
 use lib.Dec.{eqb}
 use lib.ListN.{drop, length, take}
 use borrow.Author.Tests.{ne-eqb}
-use Rattle.entries.specs.Table.{countThree}
-use Rattle.lists.specs.Truth.{by-cond, oneIf}
-use Rattle.service.specs.Entry.{jobIn, keyIn, kindIn}
+use Rattle.lists.specs.Truth.{by-cond}
+use Rattle.service.specs.Entry.{jobIn, keyIn, kindIn, opIn}
+use Rattle.strict.specs.Book.{counted}
+use Rattle.strict.specs.Laws.Counted.{counted-abort}
 use Rattle.strict.specs.Laws.Members.{ascending-apply}
-use Rattle.strict.specs.Laws.Room.{length-delete, length-insert}
+use Rattle.strict.specs.Laws.Room.{length-insert}
 use Rattle.strict.specs.Operations.{clear, put}
 use Rattle.strict.specs.Tiles.{Ascending, delete, insert, member}
 use Rattle.tiles.specs.Laws.{used-length}
 use Rattle.tiles.specs.Table.{TileTable}
+use Rattle.engine.specs.Forms.{recover-entries}
 use Rattle.engine.specs.Undoing.{recovered, undone}
 
 -- where the tiles fit with the key among them, there is a place for it
@@ -48,26 +50,16 @@ undone-ascending job (e ∷ es) t asc =
     let ih = undone-ascending job es t asc in
     by-cond Ascending (eqb job (jobIn e)) (λ _. recovered-ascending e (undone job es t) ih) (λ _. ih)
 
--- a recovery adds a tile only where it is that of a kind 3
-recovered-fits : (e : ℕ) (t : List ℕ) → Ascending t → length (recovered e t) ≤ length t + oneIf (eqb (kindIn e) 3)
-recovered-fits e t asc = go (eqb (kindIn e) 1) (eqb (kindIn e) 3) (length-delete (keyIn e) t asc) (length-insert (keyIn e) t asc)
-  where
-    go : (a b : Bool) → length (delete (keyIn e) t) + oneIf (member (keyIn e) t) ≡ length t → length (insert (keyIn e) t) + oneIf (member (keyIn e) t) ≡ length t + 1
-        → length (cond a (delete (keyIn e) t) (cond b (insert (keyIn e) t) t)) ≤ length t + oneIf b
-    go true b d i = omega arith
-    go false true d i = omega arith
-    go false false d i = omega arith
+-- entries that are left out are not counted
+counted-from : (i : ℕ) (es t : List ℕ) → counted t (map opIn (drop i es)) ≤ counted t (map opIn es)
+counted-from zero es t = omega arith
+counted-from (suc i) [] t = omega arith
+counted-from (suc i) (e ∷ es) t = let ih = counted-from i es t in omega arith
 
-pub undone-fits : (job : ℕ) (es t : List ℕ) → Ascending t → length (undone job es t) ≤ length t + countThree es
-undone-fits job [] t asc = omega arith
-undone-fits job (e ∷ es) t asc = go (eqb job (jobIn e)) (undone-fits job es t asc) (recovered-fits e (undone job es t) (undone-ascending job es t asc))
-  where
-    go : (b : Bool) → length (undone job es t) ≤ length t + countThree es → length (recovered e (undone job es t)) ≤ length (undone job es t) + oneIf (eqb (kindIn e) 3)
-        → length (cond b (recovered e (undone job es t)) (undone job es t)) ≤ length t + countThree (e ∷ es)
-    go true ih h = omega arith
-    go false ih h = omega arith
-
-pub three-from : (i : ℕ) (es : List ℕ) → countThree (drop i es) ≤ countThree es
-three-from zero es = omega arith
-three-from (suc i) [] = omega arith
-three-from (suc i) (e ∷ es) = let ih = three-from i es in omega arith
+-- the recoveries of the entries from i on leave no more tiles than are there or counted
+pub undone-fits : (job i : ℕ) (es t : List ℕ) → Ascending t → length (undone job (drop i es) t) ≤ length t + counted t (map opIn es)
+undone-fits job i es t asc =
+    let left = counted-abort job t (map opIn (drop i es)) asc in
+    let same = ap length (recover-entries job (drop i es) t) in
+    let few = counted-from i es t in
+    omega arith

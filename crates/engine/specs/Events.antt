@@ -1,4 +1,4 @@
--- An event that may happen on these tables, and the session after a job has opened or ended
+-- An event that may happen on these tables, and the session after a job has opened or ended, or the rule was named
 use mathlib.Core.Bool.{false, true}
 use mathlib.Core.Path.{_≡_}
 use Prim.Native.Nat.{ℕ}
@@ -8,6 +8,7 @@ use Rattle.service.specs.Laws.Standing.{Named}
 use Rattle.service.specs.Sound.{Tabled}
 use Rattle.service.specs.Told.{refused}
 use Rattle.service.specs.World.{World, state}
+use Rattle.service.specs.declared.Rule.the-variants.{Together}
 use Rattle.service.specs.declared.Session.{Session}
 use Rattle.strict.specs.Histories.{Event}
 
@@ -18,8 +19,12 @@ pub record Ready (w : World) (e : Event) : Type 0 where
   pub unrefused-by : refused (refusals (length (w .tiles)) (length (w .operations)) (state w) e) ≡ false
 
 abbrev pub opened : Session → ℕ → Session
-opened s job = record { marks = set (s .marks) job true; tiles = s .tiles; operations = s .operations; journal = s .journal }
+opened s job = record { rule = s .rule; marks = set (s .marks) job true; tiles = s .tiles; operations = s .operations; journal = s .journal }
 
 -- the job is closed, with these counts of tiles and operations
 abbrev pub closed : Session → ℕ → ℕ → ℕ → Session
-closed s job tiles operations = record { marks = set (s .marks) job false; tiles = tiles; operations = operations; journal = s .journal }
+closed s job tiles operations = record { rule = s .rule; marks = set (s .marks) job false; tiles = tiles; operations = operations; journal = s .journal }
+
+-- from here on a job fails as one
+abbrev pub governed : Session → Session
+governed s = record { rule = Together; marks = s .marks; tiles = s .tiles; operations = s .operations; journal = s .journal }

@@ -17,15 +17,17 @@ use Rattle.service.specs.Entry.{entryOf, foundOfKind, jobIn, keyIn, kindIn, opI
 use Rattle.service.specs.Laws.Entries.{by-kind}
 use Rattle.service.specs.Laws.Standing.{Stands, stands-perform}
 use Rattle.service.specs.Laws.Storing.{tabled-stands}
+use Rattle.service.specs.Replay.{ruled}
 use Rattle.service.specs.Sound.{Entry, Tabled}
 use Rattle.service.specs.World.{World, state, usedOperations, usedTiles, world}
+use Rattle.service.specs.declared.Rule.the-variants.{Together}
 use Rattle.service.specs.declared.Session.{Session}
 use Rattle.strict.specs.Book.{others, recover}
 use Rattle.strict.specs.Histories.{Event, abort, commit, openJob, operation}
 use Rattle.strict.specs.Operations.{Op, apply, begun, clear, effect, kind, put, skip, undo}
 use Rattle.strict.specs.Tiles.{delete, insert, member}
 use Rattle.strict.specs.declared.Procedure.{Procedure}
-use Rattle.engine.specs.Events.{Ready, closed, opened}
+use Rattle.engine.specs.Events.{Ready, closed, governed, opened}
 use Rattle.engine.specs.Undoing.{recovered, undone}
 
 -- ENTRIES, WRITTEN BACK
@@ -58,7 +60,7 @@ undo-entry e t = rw (decoded (kindIn e) .recovers) (go (eqb (kindIn e) 1) (eqb (
     go false true = refl
     go false false = refl
 
-recover-entries : (job : ℕ) (es t : List ℕ) → recover job (map opIn es) t ≡ undone job es t
+pub recover-entries : (job : ℕ) (es t : List ℕ) → recover job (map opIn es) t ≡ undone job es t
 recover-entries job [] t = refl
 recover-entries job (e ∷ es) t =
     ap (λ x. cond (eqb job (jobIn e)) (undo (opIn e) x) x) (recover-entries job es t)
@@ -74,7 +76,12 @@ module _ (w : World) (o : Tabled w) where
 
   open-form : (job : ℕ) → holding w (perform (state w) (openJob job)) ≡ world (opened (w .session) job) (w .tiles) (w .operations) (w .journal)
   open-form job i =
-      world (record { marks = set (w .session .marks) job true; tiles = tiles-count w o i; operations = operations-count w o i; journal = w .session .journal })
+      world (record { rule = w .session .rule; marks = set (w .session .marks) job true; tiles = tiles-count w o i; operations = operations-count w o i; journal = w .session .journal })
+      (same-tiles i) (same-operations i) (w .journal)
+
+  pub rule-form : holding w (ruled (state w)) ≡ world (governed (w .session)) (w .tiles) (w .operations) (w .journal)
+  rule-form i =
+      world (record { rule = Together; marks = w .session .marks; tiles = tiles-count w o i; operations = operations-count w o i; journal = w .session .journal })
       (same-tiles i) (same-operations i) (w .journal)
 
   module _ (job : ℕ) where
@@ -118,10 +125,10 @@ module _ (w : World) (o : Tabled w) where
     more-count = length-append (map opIn (usedOperations w)) (begun job p key (usedTiles w) ∷ []) ∙ ap (λ n. n + 1) (operations-count w o)
 
     pub operation-form : holding w (perform (state w) (operation job p key))
-        ≡ world (record { marks = w .session .marks; tiles = length affected; operations = w .session .operations + 1; journal = w .session .journal })
+        ≡ world (record { rule = w .session .rule; marks = w .session .marks; tiles = length affected; operations = w .session .operations + 1; journal = w .session .journal })
         (padded (length (w .tiles)) affected) (padded (length (w .operations)) (usedOperations w ++ (new ∷ []))) (w .journal)
     operation-form i =
-        world (record { marks = w .session .marks; tiles = length affected; operations = more-count i; journal = w .session .journal })
+        world (record { rule = w .session .rule; marks = w .session .marks; tiles = length affected; operations = more-count i; journal = w .session .journal })
         (padded (length (w .tiles)) affected) (padded (length (w .operations)) (more-operations i)) (w .journal)
 
 -- WHAT THE CODE LEAVES
@@ -141,12 +148,12 @@ module _ (w : World) (few : length (w .session .marks) ≡ 64) where
         → count ≡ length (apply (effect p) key (usedTiles w))
         → tiles ≡ padded (length (w .tiles)) (apply (effect p) key (usedTiles w))
         → operations ≡ set (w .operations) (w .session .operations) (packEntry (kind p (member key (usedTiles w))) job key)
-        → world (record { marks = w .session .marks; tiles = count; operations = w .session .operations + 1; journal = w .session .journal }) tiles operations (w .journal)
+        → world (record { rule = w .session .rule; marks = w .session .marks; tiles = count; operations = w .session .operations + 1; journal = w .session .journal }) tiles operations (w .journal)
         ≡ holding w (perform (state w) (operation job p key))
     performed count tiles operations a b c =
         let new = packEntry (kind p (member key (usedTiles w))) job key in
         let more = c ∙ padded-more (w .operations) (w .session .operations) new slot-free (entry-table w (r .tabled)) in
-        (λ i. world (record { marks = w .session .marks; tiles = a i; operations = w .session .operations + 1; journal = w .session .journal }) (b i) (more i) (w .journal))
+        (λ i. world (record { rule = w .session .rule; marks = w .session .marks; tiles = a i; operations = w .session .operations + 1; journal = w .session .journal }) (b i) (more i) (w .journal))
         ∙ sym (operation-form w (r .tabled) job p key)
 
   pub aborted : (job : ℕ) → Ready w (abort job) → (count left : ℕ) (tiles operations : List ℕ)

@@ -1,37 +1,30 @@
 -- The tests as the code asks them, each by one function, and what the first of them say for the later ones
 use mathlib.Core.Bool.{Bool, _&&_, and-assoc, and-true, false, true}
-use mathlib.Core.List.{List, [], _∷_}
+use mathlib.Core.List.{List, [], _∷_, map}
 use mathlib.Core.Path.{_∙_, _≡_, ap, refl, sym}
 use Prim.Native.Nat.{_+_, _-_, _≤_, suc, zero, ℕ}
 use native.Mathlib.Omega.{arith}
-use lib.Dec.{eqb, leb, leb·zero}
+use lib.Dec.{leb, leb·zero}
 use lib.ListN.{drop, getD, length, length-replicate, length-take, replicate, take}
 use lib.Seq.{length-take-le}
 use borrow.Author.Tests.{le-leb, leb-true}
-use Rattle.entries.specs.Laws.{reserved-three}
-use Rattle.entries.specs.Table.{countThree}
 use Rattle.lists.specs.Lists.{all}
-use Rattle.lists.specs.Truth.{both, oneIf}
+use Rattle.lists.specs.Truth.{both}
 use Rattle.scans.specs.Tests.{allEntries, fails, sortedKeys}
+use Rattle.service.specs.Admission.{ruleOf}
 use Rattle.service.specs.Calls.{fresh, startWorld}
-use Rattle.service.specs.Entry.{kindIn}
+use Rattle.service.specs.Entry.{opIn}
 use Rattle.service.specs.Laws.Soundness.{ascending-is, every-is, zeros-is}
 use Rattle.service.specs.Sound.{every, journalTests, settledB, soundB, tabledB, zeros}
 use Rattle.service.specs.Tile.{isKey}
 use Rattle.service.specs.World.{state, world}
+use Rattle.service.specs.declared.Rule.{Rule}
 use Rattle.service.specs.declared.Session.{Session}
-use Rattle.strict.specs.Book.{spokenFor}
+use Rattle.strict.specs.Book.{besides, spokenFor}
+use Rattle.strict.specs.Laws.Room.{nothing-besides}
 use Rattle.tiles.specs.Laws.{zeros-table}
 use Rattle.tiles.specs.Table.{TileTable}
 use Rattle.soundness.specs.Tests.{countTests}
-
-one-few : (b : Bool) → oneIf b ≤ 1
-one-few true = omega arith
-one-few false = omega arith
-
-three-few : (es : List ℕ) → countThree es ≤ length es
-three-few [] = omega arith
-three-few (e ∷ es) = omega (arith, one-few (eqb (kindIn e) 3), three-few es)
 
 -- THE TABLES
 module _ (s : Session) (t o : List ℕ) where
@@ -42,8 +35,8 @@ module _ (s : Session) (t o : List ℕ) where
       ∷ (sortedKeys (take (s .tiles) t) && zeros (drop (s .tiles) t))
       ∷ allEntries (s .marks) (take (s .operations) o)
       ∷ zeros (drop (s .operations) o)
-      ∷ settledB (take (s .tiles) t) (take (s .operations) o)
-      ∷ leb (spokenFor (state (world s t o []) .book)) (length t)
+      ∷ settledB (s .rule) (take (s .tiles) t) (take (s .operations) o)
+      ∷ leb (spokenFor (ruleOf (s .rule)) (state (world s t o []) .book)) (length t)
       ∷ []
 
   tabled-parts : tabledB (world s t o []) ≡ every parts
@@ -76,16 +69,14 @@ module _ (s : Session) (t o : List ℕ) where
         let p = both (sortedKeys (take (s .tiles) t)) _ e in
         zeros-table (s .tiles) t (counts .tiles-fit) (ascending-is (take (s .tiles) t) (both (all isKey (take (s .tiles) t)) _ (p .0) .1)) (zeros-is (drop (s .tiles) t) (p .1))
 
-    pub reserved-few : countThree (take (s .operations) o) ≤ 1024
-    reserved-few = omega (arith, three-few (take (s .operations) o), length-take-le (s .operations) o (counts .operations-fit))
-
   -- where the others pass, the last test decides
   pub room-decides : every (countTests s t o) ≡ true → (sortedKeys (take (s .tiles) t) && zeros (drop (s .tiles) t)) ≡ true
-      → allEntries (s .marks) (take (s .operations) o) ≡ true → zeros (drop (s .operations) o) ≡ true → settledB (take (s .tiles) t) (take (s .operations) o) ≡ true
-      → leb (s .tiles + countThree (take (s .operations) o)) (length t) ≡ tabledB (world s t o [])
+      → allEntries (s .marks) (take (s .operations) o) ≡ true → zeros (drop (s .operations) o) ≡ true
+      → settledB (s .rule) (take (s .tiles) t) (take (s .operations) o) ≡ true
+      → leb (s .tiles + besides (ruleOf (s .rule)) (take (s .tiles) t) (map opIn (take (s .operations) o))) (length t) ≡ tabledB (world s t o [])
   room-decides counts tiles entries operations-rest settled =
       let used = length-take-le (s .tiles) t (counted counts .tiles-fit) in
-      rw (tabled-parts, counts, tiles, entries, operations-rest, settled, used, reserved-three (take (s .operations) o)) (sym (and-true _))
+      rw (tabled-parts, counts, tiles, entries, operations-rest, settled, used) (sym (and-true _))
 
 -- A START
 -- cleared operation places pass the test of what is behind the used ones
@@ -93,35 +84,35 @@ zeros-again : (n : ℕ) → zeros (replicate n 0) ≡ true
 zeros-again zero = refl
 zeros-again (suc n) = zeros-again n
 
-module _ (t : List ℕ) (count : ℕ) (o j : List ℕ) where
+module _ (r : Rule) (t : List ℕ) (count : ℕ) (o j : List ℕ) where
   -- what is left of the tests where no job is open and no operation is used
   abbrev starts : List Bool
   starts =
-      every (countTests (fresh count) t o)
+      every (countTests (fresh r count) t o)
       ∷ (sortedKeys (take count t) && zeros (drop count t))
       ∷ leb (length j) 65536
       ∷ []
 
   -- they are as many as they were
-  counts-again : countTests (fresh count) t (replicate (length o) 0) ≡ countTests (fresh count) t o
+  counts-again : countTests (fresh r count) t (replicate (length o) 0) ≡ countTests (fresh r count) t o
   counts-again = rw (length-replicate {A = ℕ} (length o) 0)
 
-  -- nothing is reserved
-  used-few : length (take count t) + 0 ≤ length t
-  used-few = simp length-take (omega arith)
+  -- nothing is spoken for besides
+  used-few : length (take count t) + besides (ruleOf r) (take count t) [] ≤ length t
+  used-few = rw (nothing-besides (ruleOf r) (take count t)) (simp length-take (omega arith))
 
-  start-parts : soundB (startWorld t count o j) ≡ every starts
+  start-parts : soundB (startWorld r t count o j) ≡ every starts
   unfolding soundB tabledB
   start-parts =
-      ap (λ b. b && every (journalTests (startWorld t count o j))) (tabled-parts (fresh count) t (replicate (length o) 0))
+      ap (λ b. b && every (journalTests (startWorld r t count o j))) (tabled-parts (fresh r count) t (replicate (length o) 0))
       ∙ (λ i. every (every (counts-again i) ∷ (sortedKeys (take count t) && zeros (drop count t)) ∷ true ∷ zeros-again (length o) i ∷ true ∷ le-leb _ _ used-few i ∷ [])
       && every (leb (length j) 65536 ∷ leb·zero (length j) i ∷ leb·zero (length j - 0) i ∷ []))
       ∙ simp (and-assoc, and-true)
 
-  pub start-fails : (i : ℕ) → getD starts i true ≡ false → false ≡ soundB (startWorld t count o j)
+  pub start-fails : (i : ℕ) → getD starts i true ≡ false → false ≡ soundB (startWorld r t count o j)
   start-fails i e = sym (start-parts ∙ fails starts i e)
 
   -- where the others pass, the journal's length decides
-  pub journal-decides : every (countTests (fresh count) t o) ≡ true → (sortedKeys (take count t) && zeros (drop count t)) ≡ true
-      → leb (length j) 65536 ≡ soundB (startWorld t count o j)
+  pub journal-decides : every (countTests (fresh r count) t o) ≡ true → (sortedKeys (take count t) && zeros (drop count t)) ≡ true
+      → leb (length j) 65536 ≡ soundB (startWorld r t count o j)
   journal-decides counts tiles = rw (start-parts, counts, tiles) (sym (and-true _))

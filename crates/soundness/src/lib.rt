@@ -4,7 +4,9 @@ ghost use mathlib.Core.Path.{_≡_};
 ghost use Rattle.service.specs.Calls.{fresh, startWorld};
 ghost use Rattle.service.specs.Sound.{every, soundB, tabledB};
 ghost use Rattle.service.specs.World.{world};
+ghost use Rattle.service.specs.declared.Rule.{Rule};
 ghost use Rattle.soundness.specs.Tests.{countTests};
+use service::Rule;
 use service::Session;
 
 // Whether the lengths and the counts are in their ranges.
@@ -47,10 +49,10 @@ pub fn tables_sound(session: Session, tiles: &[u32], operations: &[u64]) -> bool
     if !scans::operations_clear(operations, used) {
         return false;
     }
-    if !scans::is_settled(session, tiles, operations) {
+    if !rules::is_settled(session, tiles, operations) {
         return false;
     }
-    count + entries::count_reserved(operations, used) <= tiles.len()
+    count + rules::count_besides(session, tiles, operations) <= tiles.len()
 }
 
 // Whether a session and its lent tables are sound.
@@ -71,10 +73,11 @@ pub fn sound(session: Session, tiles: &[u32], operations: &[u64], journal: &[u8]
 }
 
 // A session with no job open, nothing admitted and nothing written.
-pub fn fresh_session(count: usize) -> Session
-    ensures { λ r. ⌜ r ≡ fresh count ⌝ }
+pub fn fresh_session(rule: Rule, count: usize) -> Session
+    ensures { λ r. ⌜ r ≡ fresh rule count ⌝ }
 {
     Session {
+        rule,
         marks: [false; 64],
         tiles: count,
         operations: 0,
@@ -82,11 +85,12 @@ pub fn fresh_session(count: usize) -> Session
     }
 }
 
-// Whether a tile table with its count can start a session: only the number of slots of the operation table counts, for its places are cleared.
+// Whether a tile table with its count can start a session, by either rule alike: only the number of slots of the operation table counts, for its
+// places are cleared.
 pub fn can_start(tiles: &[u32], count: usize, operations: &[u64], journal: &[u8]) -> bool
-    ensures { λ r. ⌜ r ≡ soundB (startWorld (now (tiles .entry)) count (now (operations .entry)) (now (journal .entry))) ⌝ }
+    ensures { λ r. ⌜ ((rule : Rule) → r ≡ soundB (startWorld rule (now (tiles .entry)) count (now (operations .entry)) (now (journal .entry)))) ⌝ }
 {
-    if !counts_fit(fresh_session(count), tiles, operations) {
+    if !counts_fit(fresh_session(Rule::Alone, count), tiles, operations) {
         return false;
     }
     if !scans::tiles_sound(tiles, count) {

@@ -1,27 +1,26 @@
 -- `admission::admit` meets its contract: the tests are those of the verdict, in its order
-use mathlib.Core.Bool.{_&&_}
 use mathlib.Core.List.{[], map}
 use mathlib.Core.Option.{Option, none, some}
 use mathlib.Core.Path.{_∙_, _≡_, ap, sym}
 use Prim.Native.Nat.{_<_, ℕ}
 use native.Mathlib.Omega.{arith}
-use lib.Dec.{eqb}
 use lib.ListN.{length}
 use lib.Seq.{getD-take, length-take-le}
 use borrow.Author.Needs.{needs}
 use borrow.Author.Tests.{eq-eqb, ne-eqb}
 use denote.Ref.{now}
-use Rattle.entries.specs.Laws.{holder-place, jobAt, place-inside}
-use Rattle.entries.specs.Table.{holderPlace}
+use Rattle.entries.specs.Laws.{jobAt, place-inside}
+use Rattle.entries.specs.Table.{firstPlace}
+use Rattle.rules.specs.Laws.{held-place, place-wanted}
+use Rattle.rules.specs.Rules.{holdsBy}
+use Rattle.service.specs.Admission.{ruleOf}
 use Rattle.service.specs.Entry.{jobIn, opIn}
 use Rattle.service.specs.Laws.Entries.{kind-range}
 use Rattle.service.specs.World.{World, state, usedOperations, usedTiles, world}
-use Rattle.strict.specs.Book.{heldBy, needsPlace, spokenFor}
-use Rattle.strict.specs.Operations.{begun, kind}
-use Rattle.strict.specs.Strict.{alone}
+use Rattle.strict.specs.Operations.{kind}
 use Rattle.admission.proofs.admit.Statement.{statement}
 use Rattle.admission.proofs.admit.Tie as tie
-use Rattle.admission.specs.Laws.{admitted, held, no-place, no-slot, operations-count, tile-table}
+use Rattle.admission.specs.Laws.{admitted, held, holding, lacksPlace, no-place, no-slot, operations-count, tile-table}
 
 -- what the function was given
 abbrev given : tie.After-first-holder → World
@@ -29,34 +28,36 @@ given c = let a = c .before .before .before .before .before .args in world (a .s
 
 held-by : (c : tie.After-first-holder)
     → let a = c .before .before .before .before .before .args in
-    heldBy alone (state (given c) .book) 0 (a .procedure) (a .key) ≡ jobAt (usedOperations (given c)) (c .first-holder .result)
+    holding (length (now (a .tiles))) (length (now (a .operations))) (state (given c)) (a .job) (a .procedure) (a .key) ≡ jobAt (usedOperations (given c)) (c .first-holder .result)
 held-by c =
     let a = c .before .before .before .before .before .args in
-    let of-kind = ap (λ n. holderPlace n (a .key) (usedOperations (given c))) (c .before .kind .ensures ∙ ap (kind (a .procedure)) (c .before .before .is-present .ensures)) in
-    holder-place (a .procedure) (a .key) 0 (usedTiles (given c)) (usedOperations (given c))
+    let of-kind = ap (λ n. firstPlace (holdsBy (a .session .rule) (a .job) n (a .key)) (usedOperations (given c))) (c .before .kind .ensures ∙ ap (kind (a .procedure)) (c .before .before .is-present .ensures)) in
+    held-place (a .job) (a .procedure) (a .key) (usedTiles (given c)) (a .session .rule) (usedOperations (given c))
     ∙ ap (jobAt (usedOperations (given c))) (sym (c .first-holder .ensures ∙ of-kind))
 
 -- the holder's place is a used one
 place-there : (c : tie.After-holder) → c .holder .given .0 .0 < c .before .before .before .before .before .before .before .args .session .operations
 place-there c =
     let f = c .before .before in
-    let inside = place-inside _ _ (usedOperations (given f)) (sym (f .first-holder .ensures) ∙ c .holder .given .1) in
+    let inside = place-inside _ (usedOperations (given f)) (sym (f .first-holder .ensures) ∙ c .holder .given .1) in
     omega (arith, inside, length-take-le (given f .session .operations) (given f .operations) (f .before .before .before .before .before .pre .operations-fit))
 
 -- there is none
 free : (c : tie.After-enum-told)
     → let f = c .before .before in
     let a = f .before .before .before .before .before .args in
-    heldBy alone (state (given f) .book) 0 (a .procedure) (a .key) ≡ none
+    holding (length (now (a .tiles))) (length (now (a .operations))) (state (given f)) (a .job) (a .procedure) (a .key) ≡ none
 free c = let f = c .before .before in held-by f ∙ ap (jobAt (usedOperations (given f))) (c .enum-told .given .1)
 
 lacks : (c : tie.After-lacks-place)
     → let w = given (c .before .before .before) in
     let a = c .before .before .before .before .before .before .before .before .args in
-    (needsPlace (begun 0 (a .procedure) (a .key) (usedTiles w)) && eqb (spokenFor (state w .book)) (length (w .tiles))) ≡ c .lacks-place .result
+    lacksPlace (length (w .tiles)) (length (w .operations)) (state w) (a .job) (a .procedure) (a .key) ≡ c .lacks-place .result
 lacks c =
     let f = c .before .before .before in
-    rw (c .lacks-place .ensures, f .before .kind .ensures, f .before .before .is-present .ensures)
+    let w = given f in
+    let a = c .before .before .before .before .before .before .before .before .args in
+    rw (place-wanted (a .job) (a .procedure) (a .key) (usedTiles w) (ruleOf (w .session .rule)) (state w .book .table), c .lacks-place .ensures, f .before .kind .ensures, f .before .before .is-present .ensures)
 
 slots : (c : tie.After-lacks-place) → let w = given (c .before .before .before) in length (map opIn (usedOperations w)) ≡ w .session .operations
 slots c = let f = c .before .before .before in operations-count (given f) (f .before .before .before .before .before .pre)
@@ -89,7 +90,7 @@ returns c =
     let f = c .before .before .before .before .before in
     let h = c .before .before .before in
     let a = f .before .before .before .before .before .args in
-    held _ _ _ (a .procedure) (a .key) (c .job-in .result)
+    held _ _ _ (a .job) (a .procedure) (a .key) (c .job-in .result)
     (held-by f ∙ ap (jobAt (usedOperations (given f))) (h .holder .given .1)
     ∙ ap (λ e. some (jobIn e)) (getD-take (a .session .operations) (now (a .operations)) (h .holder .given .0 .0) 0 (place-there h)) ∙ ap {B = Option ℕ} some (sym (c .job-in .ensures)))
 
@@ -100,13 +101,13 @@ lacks-place-requires : tie.Need-lacks-place-requires
 lacks-place-requires c κs = search needs
 
 returns-2 : tie.Need-returns-2
-returns-2 c = no-place _ _ _ _ _ (free (c .before .before)) (lacks (c .before) ∙ c .if1 .taken)
+returns-2 c = no-place _ _ _ _ _ _ (free (c .before .before)) (lacks (c .before) ∙ c .if1 .taken)
 
 returns-3 : tie.Need-returns-3
-returns-3 c = no-slot _ _ _ _ _ (free (c .before .before .before)) (lacks (c .before .before) ∙ c .before .if1 .left) (rw (slots (c .before .before)) (eq-eqb _ _ (c .if2 .taken)))
+returns-3 c = no-slot _ _ _ _ _ _ (free (c .before .before .before)) (lacks (c .before .before) ∙ c .before .if1 .left) (rw (slots (c .before .before)) (eq-eqb _ _ (c .if2 .taken)))
 
 returns-4 : tie.Need-returns-4
-returns-4 c = admitted _ _ _ _ _ (free (c .before .before .before)) (lacks (c .before .before) ∙ c .before .if1 .left) (rw (slots (c .before .before)) (ne-eqb _ _ (c .if2 .left)))
+returns-4 c = admitted _ _ _ _ _ _ (free (c .before .before .before)) (lacks (c .before .before) ∙ c .before .if1 .left) (rw (slots (c .before .before)) (ne-eqb _ _ (c .if2 .left)))
 
 pub admit-spec : {M : Type 1} → statement M
 admit-spec =

@@ -1,36 +1,43 @@
 -- `admission::lacks_place` meets its contract: what it counts is what is spoken for
 use mathlib.Core.List.{[]}
-use mathlib.Core.Path.{_∙_, ap, refl, sym}
-use Prim.Native.Nat.{_+_}
+use mathlib.Core.Path.{_∙_, _≡_, ap, sym}
+use Prim.Native.Nat.{_+_, _≤_}
 use native.Mathlib.Omega.{arith}
 use lib.Dec.{eqb}
 use lib.ListN.{length}
 use borrow.Author.Needs.{needs}
-use borrow.Author.Tests.{eq-eqb, ne-eqb}
 use denote.Ref.{now}
+use Rattle.lists.specs.Truth.{test-fails, test-passes}
 use Rattle.service.specs.World.{World, world}
 use Rattle.admission.proofs.lacks_place.Statement.{statement}
 use Rattle.admission.proofs.lacks_place.Tie as tie
-use Rattle.admission.specs.Laws.{room-there, spoken-for}
+use Rattle.admission.specs.Laws.{spoken-for, tile-table}
 
 -- what the function was given
-abbrev given : tie.After-count-reserved → World
-given c = let a = c .before .before .before .before .args in world (a .session) (now (a .tiles)) (now (a .operations)) []
+abbrev given : tie.Start → World
+given c = world (c .args .session) (now (c .args .tiles)) (now (c .args .operations)) []
+
+needs-place-requires : tie.Need-needs-place-requires
+needs-place-requires c κs = c .before .before .pre .operations-fit
 
 returns : tie.Need-returns
-returns c = rw (ne-eqb _ 1 (c .if1 .taken))
+returns c = rw (test-fails (c .before .needs-place .ensures) (c .if1 .taken))
 
-count-reserved-requires : tie.Need-count-reserved-requires
-count-reserved-requires c κs = search needs
+count-besides-requires : tie.Need-count-besides-requires
+count-besides-requires c κs =
+    let s = c .before .before .before .before in
+    let few : s .args .session .operations ≤ 1024 = omega (arith, s .pre .operations-fit, s .pre .few-operations) in
+    (tile-table (given s) (s .pre), s .pre .operations-fit, few)
 
 add-result : tie.Need-add-result
-add-result c = omega (arith, c .count-reserved .ensures, room-there (given c) (c .before .before .before .before .pre))
+add-result c = omega (arith, c .count-besides .ensures .1, c .before .before .before .before .before .pre .tiles-fit)
 
 returns-2 : tie.Need-returns-2
 returns-2 c =
-    let s = c .before .before .before .before in
-    let counted = ap (λ n. s .args .session .tiles + n) (c .count-reserved .ensures) ∙ sym (spoken-for (given c) (s .pre)) in
-    ap (λ n. eqb n (length (now (s .args .tiles)))) counted ∙ rw (eq-eqb _ 1 (c .before .if1 .left)) refl
+    let e = c .before in
+    let s = e .before .before .before .before in
+    rw (test-passes (e .before .needs-place .ensures) (e .if1 .left))
+    (ap (λ n. eqb n (length (now (s .args .tiles)))) (ap (λ n. s .args .session .tiles + n) (c .count-besides .ensures .0) ∙ sym (spoken-for (given s) (s .pre))))
 
 pub lacks-place-spec : {M : Type 1} → statement M
-lacks-place-spec = tie.close (tie.spec returns count-reserved-requires add-result returns-2)
+lacks-place-spec = tie.close (tie.spec needs-place-requires returns count-besides-requires add-result returns-2)

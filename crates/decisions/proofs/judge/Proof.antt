@@ -21,8 +21,8 @@ given c = world (c .args .session) (now (c .args .tiles)) (now (c .args .operati
 
 -- what the engine's verdict says of it
 meaning : (c : tie.After-admit) (u : Verdict) → c .admit .result ≡ u
-    → Meaning (given (c .before .before .before .before)) (c .before .before .before .before .args .procedure) (c .before .before .before .before .args .key) u
-meaning c u seen = verdict-seen _ _ _ _ _ _ u (c .admit .ensures) seen
+    → Meaning (given (c .before .before .before .before)) (c .before .before .before .before .args .job) (c .before .before .before .before .args .procedure) (c .before .before .before .before .args .key) u
+meaning c u seen = verdict-seen _ _ _ _ _ _ _ u (c .admit .ensures) seen
 
 admit-requires : tie.Need-admit-requires
 admit-requires c κs =
@@ -56,28 +56,28 @@ add-if1 c = search needs
 returns : tie.Need-returns
 returns c =
     let s = c .before .before .before .before .before .before .before .before in
-    judges-no-bytes (given s) (s .args .procedure) (s .args .key) (meaning (c .before .before .before .before) Admitted (c .before .before .enum-told3 .given .1))
+    judges-no-bytes (given s) (s .args .job) (s .args .procedure) (s .args .key) (meaning (c .before .before .before .before) Admitted (c .before .before .enum-told3 .given .1))
     (lt-ltb _ (10 + 4 * openMarks (s .args .session .marks)) (rw (sym (c .before .open-jobs .ensures .0)) (c .if1 .taken)))
 
 returns-2 : tie.Need-returns-2
 returns-2 c =
     let s = c .before .before .before .before .before .before .before in
-    judges-held (given s) (s .args .procedure) (s .args .key) _ (meaning (c .before .before .before) _ (c .before .holder .given .1))
+    judges-held (given s) (s .args .job) (s .args .procedure) (s .args .key) _ (meaning (c .before .before .before) _ (c .before .holder .given .1))
 
 returns-3 : tie.Need-returns-3
 returns-3 c =
     let s = c .before .before .before .before .before .before in
-    judges-no-place (given s) (s .args .procedure) (s .args .key) (meaning (c .before .before) NoTileRoom (c .enum-told .given .1))
+    judges-no-place (given s) (s .args .job) (s .args .procedure) (s .args .key) (meaning (c .before .before) NoTileRoom (c .enum-told .given .1))
 
 returns-4 : tie.Need-returns-4
 returns-4 c =
     let s = c .before .before .before .before .before .before in
-    judges-no-slot (given s) (s .args .procedure) (s .args .key) (meaning (c .before .before) NoOperationRoom (c .enum-told2 .given .1))
+    judges-no-slot (given s) (s .args .job) (s .args .procedure) (s .args .key) (meaning (c .before .before) NoOperationRoom (c .enum-told2 .given .1))
 
 returns-5 : tie.Need-returns-5
 returns-5 c =
     let s = c .before .before .before .before .before .before .before .before in
-    judges-perform (given s) (s .args .procedure) (s .args .key) (meaning (c .before .before .before .before) Admitted (c .before .before .enum-told3 .given .1))
+    judges-perform (given s) (s .args .job) (s .args .procedure) (s .args .key) (meaning (c .before .before .before .before) Admitted (c .before .before .enum-told3 .given .1))
     (le-ltb _ (10 + 4 * openMarks (s .args .session .marks)) (rw (sym (c .before .open-jobs .ensures .0)) (c .if1 .left)))
 
 pub judge-spec : {M : Type 1} → statement M

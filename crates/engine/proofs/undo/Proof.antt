@@ -87,7 +87,7 @@ returns : tie.Need-returns Inv-loop μ-loop
 returns c =
     let none : c .before .loop .i ≡ 0 = omega arith in
     let inv = rw none at (c .before .loop .inv) in
-    (inv .counted, inv .holds)
+    (inv .number, inv .holds)
 
 pub undo-spec : {M : Type 1} → statement M
 undo-spec =

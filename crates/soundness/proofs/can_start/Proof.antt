@@ -5,6 +5,7 @@ use denote.Ref.{now}
 use Rattle.lists.specs.Truth.{test-fails, test-passes}
 use Rattle.service.specs.Calls.{fresh}
 use Rattle.service.specs.Sound.{every}
+use Rattle.service.specs.declared.Rule.the-variants.{Alone}
 use Rattle.service.specs.declared.Session.{Session}
 use Rattle.soundness.proofs.Laws.{counted, journal-decides, start-fails}
 use Rattle.soundness.proofs.can_start.Statement.{statement}
@@ -19,31 +20,31 @@ counts-fit-requires c κs = search needs
 
 -- the counts are those of a fresh session
 counts : (c : tie.After-counts-fit) → let a = c .before .before .before .before .before .args in
-    c .counts-fit .result ≡ every (countTests (fresh (a .count)) (now (a .tiles)) (now (a .operations)))
+    c .counts-fit .result ≡ every (countTests (fresh Alone (a .count)) (now (a .tiles)) (now (a .operations)))
 counts c =
     let a = c .before .before .before .before .before .args in
     c .counts-fit .ensures ∙ ap (λ (s : Session). every (countTests s (now (a .tiles)) (now (a .operations)))) (c .before .fresh-session .ensures)
 
 returns : tie.Need-returns
-returns c =
+returns c rule =
     let a = c .before .before .before .before .before .before .args in
-    start-fails (now (a .tiles)) (a .count) (now (a .operations)) (now (a .journal)) 0 (test-fails (counts (c .before)) (c .if1 .taken))
+    start-fails rule (now (a .tiles)) (a .count) (now (a .operations)) (now (a .journal)) 0 (test-fails (counts (c .before)) (c .if1 .taken))
 
 tiles-sound-requires : tie.Need-tiles-sound-requires
 tiles-sound-requires c κs =
     let a = c .before .before .before .before .before .before .args in
-    counted (fresh (a .count)) (now (a .tiles)) (now (a .operations)) (test-passes (counts (c .before)) (c .if1 .left)) .tiles-fit
+    counted (fresh Alone (a .count)) (now (a .tiles)) (now (a .operations)) (test-passes (counts (c .before)) (c .if1 .left)) .tiles-fit
 
 returns-2 : tie.Need-returns-2
-returns-2 c =
+returns-2 c rule =
     let a = c .before .before .before .before .before .before .before .before .args in
-    start-fails (now (a .tiles)) (a .count) (now (a .operations)) (now (a .journal)) 1 (test-fails (c .before .tiles-sound .ensures) (c .if2 .taken))
+    start-fails rule (now (a .tiles)) (a .count) (now (a .operations)) (now (a .journal)) 1 (test-fails (c .before .tiles-sound .ensures) (c .if2 .taken))
 
 returns-3 : tie.Need-returns-3
-returns-3 c =
+returns-3 c rule =
     let c1 = c .before .before in
     let a = c1 .before .before .before .before .before .before .args in
-    journal-decides (now (a .tiles)) (a .count) (now (a .operations)) (now (a .journal)) (test-passes (counts (c1 .before)) (c1 .if1 .left))
+    journal-decides rule (now (a .tiles)) (a .count) (now (a .operations)) (now (a .journal)) (test-passes (counts (c1 .before)) (c1 .if1 .left))
     (test-passes (c .before .tiles-sound .ensures) (c .if2 .left))
 
 pub can-start-spec : {M : Type 1} → statement M

@@ -4,7 +4,7 @@ use borrow.Author.Needs.{needs}
 use borrow.Author.Tests.{not-false}
 use denote.Ref.{now}
 use Rattle.lists.specs.Truth.{test-fails, test-passes}
-use Rattle.soundness.proofs.Laws.{Counted, counted, part-fails, reserved-few, room-decides, tile-table}
+use Rattle.soundness.proofs.Laws.{Counted, counted, part-fails, room-decides, tile-table}
 use Rattle.soundness.proofs.tables_sound.Statement.{statement}
 use Rattle.soundness.proofs.tables_sound.Tie as tie
 
@@ -41,18 +41,19 @@ is-settled-requires : tie.Need-is-settled-requires
 is-settled-requires c κs =
     let c2 = c .before .before .before .before in
     let k = counts (c2 .before .before) in
-    (tile-table _ _ _ k (test-passes (c2 .before .tiles-sound .ensures) (c2 .if2 .left)), k .operations-fit)
+    (tile-table _ _ _ k (test-passes (c2 .before .tiles-sound .ensures) (c2 .if2 .left)), k .operations-fit, omega (arith, k .operations-fit, k .few-operations))
 
 returns-5 : tie.Need-returns-5
 returns-5 c = part-fails _ _ _ 4 (test-fails (c .before .is-settled .ensures) (c .if5 .taken))
 
-count-reserved-requires : tie.Need-count-reserved-requires
-count-reserved-requires c κs = counts (c .before .before .before .before .before .before .before .before) .operations-fit
+count-besides-requires : tie.Need-count-besides-requires
+count-besides-requires c κs =
+    let c2 = c .before .before .before .before .before .before in
+    let k = counts (c2 .before .before) in
+    (tile-table _ _ _ k (test-passes (c2 .before .tiles-sound .ensures) (c2 .if2 .left)), k .operations-fit, omega (arith, k .operations-fit, k .few-operations))
 
 add-result : tie.Need-add-result
-add-result c =
-    let k = counts (c .before .before .before .before .before .before .before .before .before) in
-    omega (arith, reserved-few _ _ _ k, c .count-reserved .ensures)
+add-result c = omega (arith, counts (c .before .before .before .before .before .before .before .before .before) .tiles-fit, c .count-besides .ensures .1)
 
 returns-6 : tie.Need-returns-6
 returns-6 c =
@@ -61,7 +62,7 @@ returns-6 c =
     let c3 = c4 .before .before in
     let c2 = c3 .before .before in
     let c1 = c2 .before .before in
-    rw (c .count-reserved .ensures)
+    rw (c .count-besides .ensures .0)
     (room-decides _ _ _
     (test-passes (c1 .before .counts-fit .ensures) (c1 .if1 .left))
     (test-passes (c2 .before .tiles-sound .ensures) (c2 .if2 .left))
@@ -83,6 +84,6 @@ tables-sound-spec =
     returns-4
     is-settled-requires
     returns-5
-    count-reserved-requires
+    count-besides-requires
     add-result
     returns-6)
