@@ -1,28 +1,47 @@
 // The soundness check and the public calls for the program of baseline/ to link: a session comes and goes in its parts, and a reply goes as numbers.
 use service::Address;
 use service::Outcome;
+use service::Rule;
 use service::Session;
 use strict::Procedure;
 
-// A session of its parts: the marks, and the counts of tiles, operations and journal bytes.
-fn session_of(marks: &[bool; 64], counts: &[usize; 3]) -> Session {
+// The rule of a number: 2 for the second, and the first for all others.
+fn rule_of(number: usize) -> Rule {
+    match number {
+        2 => Rule::Together,
+        _ => Rule::Alone,
+    }
+}
+
+fn rule_number(rule: Rule) -> usize {
+    match rule {
+        Rule::Alone => 1,
+        Rule::Together => 2,
+    }
+}
+
+// A session of its parts: the marks, the counts of tiles, operations and journal bytes, and the number of its rule.
+fn session_of(marks: &[bool; 64], parts: &[usize; 4]) -> Session {
     Session {
+        rule: rule_of(parts[3]),
         marks: *marks,
-        tiles: counts[0],
-        operations: counts[1],
-        journal: counts[2],
+        tiles: parts[0],
+        operations: parts[1],
+        journal: parts[2],
     }
 }
 
 // Gives the next session back in its parts, and the reply as its number, answer and holder.
-fn give(outcome: Outcome, marks: &mut [bool; 64], counts: &mut [usize; 3], reply: &mut [u64; 4]) {
+fn give(outcome: Outcome, marks: &mut [bool; 64], parts: &mut [usize; 4], reply: &mut [u64; 4]) {
     let told = outcome.reply;
     let next = outcome.session;
     let open = next.marks;
     *marks = open;
-    counts[0] = next.tiles;
-    counts[1] = next.operations;
-    counts[2] = next.journal;
+    parts[0] = next.tiles;
+    parts[1] = next.operations;
+    parts[2] = next.journal;
+    let rule = next.rule;
+    parts[3] = rule_number(rule);
     reply[0] = decisions::number(told) as u64;
     reply[1] = decisions::answer(told) as u64;
     reply[2] = decisions::holder(told) as u64;
@@ -41,47 +60,48 @@ fn procedure_of(number: u8) -> Procedure {
 #[no_mangle]
 pub extern "C" fn bench_sound(
     marks: &[bool; 64],
-    counts: &[usize; 3],
+    parts: &[usize; 4],
     tiles: &[u32],
     operations: &[u64],
     journal: &[u8],
 ) -> bool {
-    soundness::sound(session_of(marks, counts), tiles, operations, journal)
+    soundness::sound(session_of(marks, parts), tiles, operations, journal)
 }
 
 #[no_mangle]
 pub extern "C" fn bench_start(
     marks: &mut [bool; 64],
-    counts: &mut [usize; 3],
+    parts: &mut [usize; 4],
     tiles: &[u32],
     operations: &mut [u64],
-    journal: &[u8],
+    journal: &mut [u8],
     count: usize,
+    rule: usize,
     reply: &mut [u64; 4],
 ) {
-    let outcome = sanbirogu::start(tiles, count, operations, journal);
-    give(outcome, marks, counts, reply);
+    let outcome = sanbirogu::start(tiles, count, operations, journal, rule_of(rule));
+    give(outcome, marks, parts, reply);
 }
 
 #[no_mangle]
 pub extern "C" fn bench_open(
     marks: &mut [bool; 64],
-    counts: &mut [usize; 3],
+    parts: &mut [usize; 4],
     tiles: &[u32],
     operations: &[u64],
     journal: &mut [u8],
     job: u8,
     reply: &mut [u64; 4],
 ) {
-    let session = session_of(marks, counts);
+    let session = session_of(marks, parts);
     let outcome = sanbirogu::open(session, tiles, operations, journal, job);
-    give(outcome, marks, counts, reply);
+    give(outcome, marks, parts, reply);
 }
 
 #[no_mangle]
 pub extern "C" fn bench_operation(
     marks: &mut [bool; 64],
-    counts: &mut [usize; 3],
+    parts: &mut [usize; 4],
     tiles: &mut [u32],
     operations: &mut [u64],
     journal: &mut [u8],
@@ -92,7 +112,7 @@ pub extern "C" fn bench_operation(
     row: i32,
     reply: &mut [u64; 4],
 ) {
-    let session = session_of(marks, counts);
+    let session = session_of(marks, parts);
     let address = Address { zoom, column, row };
     let outcome = sanbirogu::operation(
         session,
@@ -103,37 +123,37 @@ pub extern "C" fn bench_operation(
         procedure_of(procedure),
         address,
     );
-    give(outcome, marks, counts, reply);
+    give(outcome, marks, parts, reply);
 }
 
 #[no_mangle]
 pub extern "C" fn bench_commit(
     marks: &mut [bool; 64],
-    counts: &mut [usize; 3],
+    parts: &mut [usize; 4],
     tiles: &[u32],
     operations: &mut [u64],
     journal: &mut [u8],
     job: u8,
     reply: &mut [u64; 4],
 ) {
-    let session = session_of(marks, counts);
+    let session = session_of(marks, parts);
     let outcome = sanbirogu::commit(session, tiles, operations, journal, job);
-    give(outcome, marks, counts, reply);
+    give(outcome, marks, parts, reply);
 }
 
 #[no_mangle]
 pub extern "C" fn bench_abort(
     marks: &mut [bool; 64],
-    counts: &mut [usize; 3],
+    parts: &mut [usize; 4],
     tiles: &mut [u32],
     operations: &mut [u64],
     journal: &mut [u8],
     job: u8,
     reply: &mut [u64; 4],
 ) {
-    let session = session_of(marks, counts);
+    let session = session_of(marks, parts);
     let outcome = sanbirogu::abort(session, tiles, operations, journal, job);
-    give(outcome, marks, counts, reply);
+    give(outcome, marks, parts, reply);
 }
 
 // The reply is here the number, the offset, the jobs undone and the count of tiles left.

@@ -1,5 +1,6 @@
 // One number for a session with its tables, by which two implementations are compared.
 ghost use Prim.Native.Nat.{_<_};
+use service::Rule;
 use service::Session;
 
 fn folded(sum: u64, x: u64) -> u64
@@ -17,6 +18,13 @@ fn of_byte(byte: u8) -> u64 {
     byte as u64
 }
 
+fn of_rule(rule: Rule) -> u64 {
+    match rule {
+        Rule::Alone => 1,
+        Rule::Together => 2,
+    }
+}
+
 fn sum_of_session(session: Session) -> u64
     ensures { λ r. ⌜ r < 4294967291 ⌝ }
 {
@@ -28,7 +36,9 @@ fn sum_of_session(session: Session) -> u64
     }
     let with_tiles = folded(sum, session.tiles as u64);
     let with_operations = folded(with_tiles, session.operations as u64);
-    folded(with_operations, session.journal as u64)
+    let with_journal = folded(with_operations, session.journal as u64);
+    let rule = session.rule;
+    folded(with_journal, of_rule(rule))
 }
 
 fn sum_with_tiles(before: u64, tiles: &[u32]) -> u64

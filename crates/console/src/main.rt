@@ -9,6 +9,7 @@ use service::Read;
 use service::Record;
 use service::Replayed;
 use service::Reply;
+use service::Rule;
 use service::Session;
 use strict::Procedure;
 use terminal::Input;
@@ -25,6 +26,7 @@ struct Desk {
 
 fn no_session() -> Session {
     Session {
+        rule: Rule::Alone,
         marks: [false; 64],
         tiles: 0,
         operations: 0,
@@ -68,6 +70,20 @@ fn lone_address(command: Command) -> Address {
         zoom: (command.values[0] % 256) as u8,
         column: signed(command.values[1], command.negative[1]),
         row: signed(command.values[2], command.negative[2]),
+    }
+}
+
+// The rule of a number, if there is one.
+enum Numbered {
+    Known(Rule),
+    Nothing,
+}
+
+fn rule_of(number: usize) -> Numbered {
+    match number {
+        1 => Numbered::Known(Rule::Alone),
+        2 => Numbered::Known(Rule::Together),
+        _ => Numbered::Nothing,
     }
 }
 
@@ -137,6 +153,11 @@ fn print_read(read: Read, place: usize) {
         Read::Whole { record, next } => {
             print_record(record);
             print(b" next ");
+            print_number(next as u64);
+            print(b"\n");
+        }
+        Read::Ruled(next) => {
+            print(b"rule 2 next ");
             print_number(next as u64);
             print(b"\n");
         }
@@ -248,6 +269,26 @@ fn with_counts(session: Session, tiles: usize, operations: usize, journal: usize
     changed
 }
 
+fn with_rule(session: Session, number: usize) -> Session {
+    match rule_of(number) {
+        Numbered::Nothing => {
+            refuse();
+            session
+        }
+        Numbered::Known(rule) => {
+            agree();
+            let marks = session.marks;
+            Session {
+                rule,
+                marks,
+                tiles: session.tiles,
+                operations: session.operations,
+                journal: session.journal,
+            }
+        }
+    }
+}
+
 fn change(
     command: Command,
     session: Session,
@@ -266,12 +307,31 @@ fn change(
         Word::Operations => return with_counts(session, session.tiles, place, session.journal),
         Word::Journal => return with_counts(session, session.tiles, session.operations, place),
         Word::Mark => return with_mark(session, place, value as usize),
+        Word::Rule => return with_rule(session, place),
         _ => refuse(),
     }
     session
 }
 
 // THE COMMANDS
+
+fn begin(
+    command: Command,
+    session: Session,
+    tiles: &[u32],
+    operations: &mut [u64],
+    journal: &mut [u8],
+) -> Session {
+    match rule_of(second(command)) {
+        Numbered::Nothing => {
+            refuse();
+            session
+        }
+        Numbered::Known(rule) => {
+            answered(sanbirogu::start(tiles, first(command), operations, journal, rule))
+        }
+    }
+}
 
 fn operate(
     procedure: Procedure,
@@ -317,7 +377,7 @@ fn answer(
     let word = command.word;
     let job = job_of(command);
     match word {
-        Word::Start => answered(sanbirogu::start(tiles, first(command), operations, journal)),
+        Word::Start => begin(command, session, tiles, operations, journal),
         Word::Open => answered(sanbirogu::open(session, tiles, operations, journal, job)),
         Word::Ins => operate(Procedure::Ins, command, session, tiles, operations, journal),
         Word::Del => operate(Procedure::Del, command, session, tiles, operations, journal),

@@ -23,6 +23,7 @@ pub enum Word {
     Operations,
     Journal,
     Mark,
+    Rule,
     Unknown,
 }
 
@@ -135,6 +136,9 @@ fn change_word(line: &[u8], end: usize) -> Word {
     if is_word(line, end, b"mark") {
         return Word::Mark;
     }
+    if is_word(line, end, b"rule") {
+        return Word::Rule;
+    }
     Word::Unknown
 }
 
@@ -142,7 +146,7 @@ fn change_word(line: &[u8], end: usize) -> Word {
 fn types_of(word: Word) -> [u8; 4] {
     match word {
         Word::Lend => [b'n', b'n', b'n', b'-'],
-        Word::Start => [b'n', b'-', b'-', b'-'],
+        Word::Start => [b'n', b'b', b'-', b'-'],
         Word::Open => [b'b', b'-', b'-', b'-'],
         Word::Ins => [b'b', b'b', b's', b's'],
         Word::Del => [b'b', b'b', b's', b's'],
@@ -161,6 +165,7 @@ fn types_of(word: Word) -> [u8; 4] {
         Word::Operations => [b'n', b'-', b'-', b'-'],
         Word::Journal => [b'n', b'-', b'-', b'-'],
         Word::Mark => [b'b', b'b', b'-', b'-'],
+        Word::Rule => [b'b', b'-', b'-', b'-'],
         Word::Unknown => [b'-', b'-', b'-', b'-'],
     }
 }

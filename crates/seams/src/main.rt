@@ -5,6 +5,7 @@ use service::Address;
 use service::Located;
 use service::Outcome;
 use service::Reply;
+use service::Rule;
 use service::Session;
 use strict::Procedure;
 use terminal::print;
@@ -115,6 +116,7 @@ fn step(
 
 // Tells a story from a start: four bytes for each call, of which the last is a space.
 fn play(
+    rule: Rule,
     name: &[u8],
     tiles: &mut [u32],
     count: usize,
@@ -123,7 +125,7 @@ fn play(
     story: &[u8],
 ) {
     print(name);
-    let begun = sanbirogu::start(tiles, count, operations, journal);
+    let begun = sanbirogu::start(tiles, count, operations, journal, rule);
     let reply = begun.reply;
     print_reply(reply);
     let mut session = begun.session;
@@ -138,10 +140,26 @@ fn play(
 }
 
 // The same with room for four operations and 64 bytes of journal.
-fn tell(name: &[u8], tiles: &mut [u32], count: usize, story: &[u8]) {
+fn tell_by(rule: Rule, name: &[u8], tiles: &mut [u32], count: usize, story: &[u8]) {
     let mut operations = [0u64; 4];
     let mut journal = [0u8; 64];
-    play(name, tiles, count, &mut operations, &mut journal, story);
+    play(
+        rule,
+        name,
+        tiles,
+        count,
+        &mut operations,
+        &mut journal,
+        story,
+    );
+}
+
+fn tell(name: &[u8], tiles: &mut [u32], count: usize, story: &[u8]) {
+    tell_by(Rule::Alone, name, tiles, count, story);
+}
+
+fn tell_together(name: &[u8], tiles: &mut [u32], count: usize, story: &[u8]) {
+    tell_by(Rule::Together, name, tiles, count, story);
 }
 
 // Undo by inverses between two jobs: the cases of the report.
@@ -190,6 +208,49 @@ fn one_place() {
     tell(b"One place, insert A", &mut [A], 1, b"1(  1+A ");
 }
 
+// A job sees its own tiles where it fails as one.
+fn own_tiles() {
+    tell_together(
+        b"Rule 2, no tiles, insert A and ask",
+        &mut [0, 0],
+        0,
+        b"1(  1+A 1?A ",
+    );
+    tell_together(
+        b"Rule 2, A, replace it and abort",
+        &mut [A, 0],
+        1,
+        b"1(  1-A 1+A 1!  2(  2?A ",
+    );
+    tell_together(
+        b"Rule 2, no tiles, held though strict",
+        &mut [0, 0],
+        0,
+        b"1(  2(  1+A 1-A 2?A 1)  2?A ",
+    );
+    tell_together(
+        b"Rule 2, one place, replace A",
+        &mut [A],
+        1,
+        b"1(  1-A 1+A 1-A 1+B ",
+    );
+    tell_together(
+        b"Rule 2, one place that no outcome needs",
+        &mut [0],
+        0,
+        b"1(  1+A 1-A 1+B 1)  1(  1+B ",
+    );
+    play(
+        Rule::Together,
+        b"Rule 2, journal of 3 bytes",
+        &mut [0],
+        0,
+        &mut [0],
+        &mut [0; 3],
+        b"1(  ",
+    );
+}
+
 // Each reply from 1 to 9, and that the lowest is given.
 fn refusals() {
     tell(b"Addresses out of range", &mut [0], 0, b"1(  1+s 1?l 1-h ");
@@ -206,6 +267,7 @@ fn refusals() {
         b"1(  1?A 1-B 1?A 1-B 1?A 1+B 1)  1(  ",
     );
     play(
+        Rule::Alone,
         b"Journal of 22 bytes",
         &mut [0],
         0,
@@ -229,5 +291,6 @@ fn main() {
     addresses();
     two_jobs();
     one_place();
+    own_tiles();
     refusals();
 }

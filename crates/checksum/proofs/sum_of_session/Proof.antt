@@ -41,8 +41,14 @@ folded-requires-3 c κs = search needs
 folded-requires-4 : tie.Need-folded-requires-4 Inv-loop μ-loop
 folded-requires-4 c κs = search needs
 
+of-rule-requires : tie.Need-of-rule-requires Inv-loop μ-loop
+of-rule-requires c κs = search needs
+
+folded-requires-5 : tie.Need-folded-requires-5 Inv-loop μ-loop
+folded-requires-5 c κs = search needs
+
 returns : tie.Need-returns Inv-loop μ-loop
-returns c = c .folded4 .ensures
+returns c = c .folded5 .ensures
 
 pub sum-of-session-spec : {M : Type 1} → statement M
 sum-of-session-spec =
@@ -60,4 +66,6 @@ sum-of-session-spec =
     folded-requires-2
     folded-requires-3
     folded-requires-4
+    of-rule-requires
+    folded-requires-5
     returns)

@@ -53,7 +53,7 @@ step-requires c κs = search needs
 add-at : tie.Need-add-at Inv-loop μ-loop
 add-at c =
     let test = c .before .before .before .before .before .before .before .before .before .before .before in
-    let known = test .before .before .before .before .before .before .before .before .before .before .before in
+    let known = test .before .before .before .before .before .before .before .before .before .before .before .before .before in
     let more : test .before .loop .at + 4 ≤ length (now (known .before .before .before .before .before .args .story)) = test .loop-test .taken in
     omega (arith, more, few known)
 
