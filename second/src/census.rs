@@ -1,10 +1,15 @@
 //! Counts what the generated scripts and journals lead to, so that nothing rare stays untried.
 
 use crate::console::Console;
+use crate::journal::rule_of_journal;
 use crate::journals::journal;
+use crate::line::{parse, Call, Command};
+use crate::occasions::{occasions, Occasion};
 use crate::printed::printed_replay;
+use crate::rule::Rule;
 use crate::scripts::script;
-use crate::soundness::broken;
+use crate::session::length_of;
+use crate::soundness::{broken, Requirement};
 use std::collections::BTreeMap;
 
 /// How often each outcome occurred, by a name for it.
@@ -24,56 +29,104 @@ fn sort_of(answer: &str) -> String {
     }
 }
 
-fn group_of(command: &str) -> &str {
+/// A name for the commands of one sort, with the rule where a rule decides the answer.
+fn group_of(console: &Console, command: Command) -> String {
+    let by = |word: &str, rule: Rule| format!("{} {}", word, rule.number());
+    let on_session = |word: &str| by(word, console.session.rule);
     match command {
-        "ins" | "del" | "mem" => "operation",
-        "tile" | "entry" | "byte" | "tiles" | "operations" | "journal" | "mark" => "change",
-        "lend" | "start" | "open" | "commit" | "abort" | "address" | "read" | "replay" | "sum" => {
-            command
-        }
-        _ => "other",
+        Command::Lend(..) => "lend".to_string(),
+        Command::Call(Call::Start(_, rule)) => by("start", rule),
+        Command::Call(Call::Open(_)) => on_session("open"),
+        Command::Call(Call::Operate(..)) => on_session("operation"),
+        Command::Call(Call::Commit(_)) => on_session("commit"),
+        Command::Call(Call::Abort(_)) => on_session("abort"),
+        Command::Address(_) => "address".to_string(),
+        Command::Read(_) => "read".to_string(),
+        Command::Replay(_, length) => by("replay", rule_replayed(console, length)),
+        Command::Sum => "sum".to_string(),
+        Command::Change(_) => "change".to_string(),
     }
 }
 
-/// Counts the answers to one script, and which rule was broken where only one was.
+fn rule_replayed(console: &Console, length: u32) -> Rule {
+    let journal = console.tables.journal.get(..length_of(length));
+    rule_of_journal(journal.unwrap_or(&[]))
+}
+
+/// What was counted under this name, of an answer of this sort.
+pub fn name_of(group: &str, sort: &str) -> String {
+    format!("{:<11} {}", group, sort)
+}
+
+/// Counts the answers to one script, which requirement was broken where only one was, and the
+/// occasions.
 pub fn count_script(counts: &mut Counts, seed: u64, lines: usize) {
     let text = script(seed, lines);
     let mut console = Console::new();
     let whole_lines = text.split_inclusive(|byte| *byte == b'\n');
     for line in whole_lines.filter_map(|line| line.strip_suffix(b"\n")) {
-        let answer = console.answer(line);
-        let word = line.split(|byte| *byte == b' ').next().unwrap_or(b"");
-        let word = String::from_utf8_lossy(word);
-        let group = group_of(&word);
-        if answer == "?" {
-            count(counts, "any line   ?".to_string());
-        } else {
-            count(counts, format!("{:<10} {}", group, sort_of(&answer)));
-        }
-        if answer.starts_with("reply 1 ") && group != "start" && group != "replay" {
-            count_rule(counts, &console);
+        match parse(line) {
+            Some(command) => count_command(counts, &mut console, command, line),
+            None => count(counts, name_of("any line", "?")),
         }
     }
 }
 
-fn count_rule(counts: &mut Counts, console: &Console) {
-    let rules = broken(&console.session, &console.tables);
-    match rules.as_slice() {
-        [rule] => count(counts, format!("broken alone: {:?}", rule)),
-        _ => count(counts, "broken together: several rules".to_string()),
+fn count_command(counts: &mut Counts, console: &mut Console, command: Command, line: &[u8]) {
+    for occasion in occasions(console, command) {
+        count(counts, name_of_occasion(occasion));
     }
+    let group = group_of(console, command);
+    let answer = console.answer(line);
+    let sort = sort_of(&answer);
+    count(counts, name_of(&group, &sort));
+    if sort == "reply  1" && is_on_session(command) {
+        count_broken(counts, console);
+    }
+}
+
+/// Whether the call is refused by 1 exactly where the session's tables are not sound.
+fn is_on_session(command: Command) -> bool {
+    match command {
+        Command::Call(Call::Start(..)) => false,
+        Command::Call(Call::Open(_) | Call::Operate(..) | Call::Commit(_) | Call::Abort(_)) => true,
+        Command::Lend(..)
+        | Command::Address(_)
+        | Command::Read(_)
+        | Command::Replay(..)
+        | Command::Sum
+        | Command::Change(_) => false,
+    }
+}
+
+pub fn name_of_occasion(occasion: Occasion) -> String {
+    format!("occasion: {:?}", occasion)
+}
+
+fn count_broken(counts: &mut Counts, console: &Console) {
+    let rule = console.session.rule;
+    match broken(&console.session, &console.tables).as_slice() {
+        [requirement] => count(counts, name_of_broken(rule, *requirement)),
+        _ => count(counts, "broken together: several requirements".to_string()),
+    }
+}
+
+pub fn name_of_broken(rule: Rule, requirement: Requirement) -> String {
+    format!("broken alone by rule {}: {:?}", rule.number(), requirement)
 }
 
 /// Counts where the printed replay of one journal stopped.
 pub fn count_journal(counts: &mut Counts, seed: u64) {
-    let text = printed_replay(&journal(seed));
+    let bytes = journal(seed);
+    let text = printed_replay(&bytes);
     let first = text.lines().next().unwrap_or("");
     let words: Vec<&str> = first.split(' ').collect();
-    let name = match words.as_slice() {
-        [_, _, _, _, _, number, ..] => format!("printed    reply {:>2}", number),
-        _ => format!("printed    {}", first),
+    let sort = match words.as_slice() {
+        [_, _, _, _, _, number, ..] => format!("reply {:>2}", number),
+        _ => first.to_string(),
     };
-    count(counts, name);
+    let group = format!("printed {}", rule_of_journal(&bytes).number());
+    count(counts, name_of(&group, &sort));
 }
 
 /// One line for each outcome, then the sums over all calls for each reply number.

@@ -1,9 +1,10 @@
 //! The console: each line of text is a command, and each is answered by one line.
 
 use crate::journal::{Reader, Reading, Record};
-use crate::line::{parse, Command};
+use crate::line::{parse, Call, Change, Command};
 use crate::replay::replay;
 use crate::reply::{numbers, Reply};
+use crate::rule::Rule;
 use crate::service::{self, Address};
 use crate::session::{length_of, Session, Tables};
 
@@ -59,14 +60,12 @@ impl Console {
     fn obey(&mut self, command: Command) -> Option<String> {
         match command {
             Command::Lend(tiles, operations, journal) => self.lend(tiles, operations, journal),
+            Command::Call(call) => Some(reply_line(self.call(call))),
             Command::Address(address) => Some(address_line(address)),
             Command::Read(place) => Some(self.read(length_of(place))),
             Command::Replay(count, length) => self.replay(count, length_of(length)),
             Command::Sum => Some(format!("sum {}", self.sum())),
-            _ => match self.call(command) {
-                Some(reply) => Some(reply_line(reply)),
-                None => self.change(command).map(|_| "ok".to_string()),
-            },
+            Command::Change(change) => self.change(change).map(|()| "ok".to_string()),
         }
     }
 
@@ -80,42 +79,35 @@ impl Console {
         Some(format!("lent {} {} {}", tiles, operations, journal))
     }
 
-    /// The calls that are answered by a reply; none for any other command.
-    fn call(&mut self, command: Command) -> Option<Reply> {
+    fn call(&mut self, call: Call) -> Reply {
         let (session, tables) = (&mut self.session, &mut self.tables);
-        match command {
-            Command::Start(count) => {
-                let (started, reply) = service::start(tables, count);
+        match call {
+            Call::Start(count, rule) => {
+                let (started, reply) = service::start(tables, count, rule);
                 *session = started;
-                Some(reply)
+                reply
             }
-            Command::Open(job) => Some(service::open(session, tables, job)),
-            Command::Operate(job, procedure, address) => {
-                let reply = service::operate(session, tables, job, procedure, address);
-                Some(reply)
+            Call::Open(job) => service::open(session, tables, job),
+            Call::Operate(job, procedure, address) => {
+                service::operate(session, tables, job, procedure, address)
             }
-            Command::Commit(job) => Some(service::commit(session, tables, job)),
-            Command::Abort(job) => Some(service::abort(session, tables, job)),
-            _ => None,
+            Call::Commit(job) => service::commit(session, tables, job),
+            Call::Abort(job) => service::abort(session, tables, job),
         }
     }
 
-    /// Changes from outside; none for a place that is not lent.
-    fn change(&mut self, command: Command) -> Option<()> {
-        let tables = &mut self.tables;
-        match command {
-            Command::PutTile(place, key) => *tables.tiles.get_mut(length_of(place))? = key,
-            Command::PutEntry(place, entry) => {
-                *tables.operations.get_mut(length_of(place))? = entry
-            }
-            Command::PutByte(place, byte) => *tables.journal.get_mut(length_of(place))? = byte,
-            Command::SetTiles(count) => self.session.tiles = count,
-            Command::SetOperations(count) => self.session.operations = count,
-            Command::SetJournal(count) => self.session.journal = count,
-            Command::Mark(job, bit) if bit <= 1 => {
-                *self.session.open.get_mut(usize::from(job))? = bit == 1
-            }
-            _ => return None,
+    /// Changes something from outside; none for a place that is not lent.
+    fn change(&mut self, change: Change) -> Option<()> {
+        let (session, tables) = (&mut self.session, &mut self.tables);
+        match change {
+            Change::Tile(place, key) => *tables.tiles.get_mut(length_of(place))? = key,
+            Change::Entry(place, entry) => *tables.operations.get_mut(length_of(place))? = entry,
+            Change::Byte(place, byte) => *tables.journal.get_mut(length_of(place))? = byte,
+            Change::Tiles(count) => session.tiles = count,
+            Change::Operations(count) => session.operations = count,
+            Change::Journal(count) => session.journal = count,
+            Change::Mark(job, mark) => *session.open.get_mut(usize::from(job))? = mark,
+            Change::Rule(rule) => session.rule = rule,
         }
         Some(())
     }
@@ -153,11 +145,13 @@ impl Console {
         let session = &self.session;
         let marks = session.open.iter().map(|mark| u64::from(*mark));
         let counts = [session.tiles, session.operations, session.journal];
+        let rule = std::iter::once(u64::from(session.rule.number()));
         let tiles = self.tables.tiles.iter().map(|key| u64::from(*key));
         let entries = self.tables.operations.iter().copied();
         let bytes = self.tables.journal.iter().map(|byte| u64::from(*byte));
         marks
             .chain(counts.iter().map(|count| u64::from(*count)))
+            .chain(rule)
             .chain(tiles)
             .chain(entries)
             .chain(bytes)
@@ -193,5 +187,6 @@ fn record_text(record: Record) -> String {
         }
         Record::Commit(job) => format!("commit {}", job),
         Record::Abort(job) => format!("abort {}", job),
+        Record::JobAsOne => format!("rule {}", Rule::JobAsOne.number()),
     }
 }

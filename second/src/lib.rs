@@ -4,18 +4,21 @@
 
 #![forbid(unsafe_code)]
 
+pub mod admission;
 pub mod census;
 pub mod comparison;
 pub mod console;
 pub mod journal;
 pub mod journals;
 pub mod line;
+pub mod occasions;
 pub mod operation;
 pub mod printed;
 pub mod program;
 pub mod random;
 pub mod replay;
 pub mod reply;
+pub mod rule;
 pub mod scripts;
 pub mod service;
 pub mod session;

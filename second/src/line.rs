@@ -1,27 +1,41 @@
 //! One line of the console: a word and its numbers, to the byte.
 
 use crate::operation::Procedure;
+use crate::rule::Rule;
 use crate::service::Address;
 
 #[derive(Clone, Copy, Debug, PartialEq, Eq)]
 pub enum Command {
     Lend(u32, u32, u32),
-    Start(u32),
-    Open(u8),
-    Operate(u8, Procedure, Address),
-    Commit(u8),
-    Abort(u8),
+    Call(Call),
     Address(Address),
     Read(u32),
     Replay(u32, u32),
     Sum,
-    PutTile(u32, u32),
-    PutEntry(u32, u64),
-    PutByte(u32, u8),
-    SetTiles(u32),
-    SetOperations(u32),
-    SetJournal(u32),
-    Mark(u8, u8),
+    Change(Change),
+}
+
+/// The calls that are answered by a reply.
+#[derive(Clone, Copy, Debug, PartialEq, Eq)]
+pub enum Call {
+    Start(u32, Rule),
+    Open(u8),
+    Operate(u8, Procedure, Address),
+    Commit(u8),
+    Abort(u8),
+}
+
+/// Changes of the tables and the session from outside.
+#[derive(Clone, Copy, Debug, PartialEq, Eq)]
+pub enum Change {
+    Tile(u32, u32),
+    Entry(u32, u64),
+    Byte(u32, u8),
+    Tiles(u32),
+    Operations(u32),
+    Journal(u32),
+    Mark(u8, bool),
+    Rule(Rule),
 }
 
 /// No command has more numbers than this.
@@ -33,21 +47,17 @@ pub fn parse(line: &[u8]) -> Option<Command> {
     let word = parts.next()?;
     // One number more than any command has is enough to see that there are too many.
     let numbers: Vec<&[u8]> = parts.take(MOST_NUMBERS + 1).collect();
-    parse_call(word, &numbers).or_else(|| parse_change(word, &numbers))
+    parse_other(word, &numbers)
+        .or_else(|| parse_call(word, &numbers).map(Command::Call))
+        .or_else(|| parse_change(word, &numbers).map(Command::Change))
 }
 
-fn parse_call(word: &[u8], numbers: &[&[u8]]) -> Option<Command> {
+/// The commands that have an answer of their own.
+fn parse_other(word: &[u8], numbers: &[&[u8]]) -> Option<Command> {
     Some(match (word, numbers) {
         (b"lend", [tiles, operations, journal]) => {
             Command::Lend(count(tiles)?, count(operations)?, count(journal)?)
         }
-        (b"start", [tiles]) => Command::Start(count(tiles)?),
-        (b"open", [job]) => Command::Open(small(job)?),
-        (b"ins", [job, place @ ..]) => operate(job, Procedure::Insert, place)?,
-        (b"del", [job, place @ ..]) => operate(job, Procedure::Delete, place)?,
-        (b"mem", [job, place @ ..]) => operate(job, Procedure::Member, place)?,
-        (b"commit", [job]) => Command::Commit(small(job)?),
-        (b"abort", [job]) => Command::Abort(small(job)?),
         (b"address", place) => Command::Address(address(place)?),
         (b"read", [place]) => Command::Read(count(place)?),
         (b"replay", [tiles, length]) => Command::Replay(count(tiles)?, count(length)?),
@@ -56,21 +66,35 @@ fn parse_call(word: &[u8], numbers: &[&[u8]]) -> Option<Command> {
     })
 }
 
-fn parse_change(word: &[u8], numbers: &[&[u8]]) -> Option<Command> {
+fn parse_call(word: &[u8], numbers: &[&[u8]]) -> Option<Call> {
     Some(match (word, numbers) {
-        (b"tile", [place, key]) => Command::PutTile(count(place)?, count(key)?),
-        (b"entry", [place, entry]) => Command::PutEntry(count(place)?, natural(entry)?),
-        (b"byte", [place, byte]) => Command::PutByte(count(place)?, small(byte)?),
-        (b"tiles", [used]) => Command::SetTiles(count(used)?),
-        (b"operations", [used]) => Command::SetOperations(count(used)?),
-        (b"journal", [used]) => Command::SetJournal(count(used)?),
-        (b"mark", [job, bit]) => Command::Mark(small(job)?, small(bit)?),
+        (b"start", [tiles, number]) => Call::Start(count(tiles)?, rule(number)?),
+        (b"open", [job]) => Call::Open(small(job)?),
+        (b"ins", [job, place @ ..]) => operate(job, Procedure::Insert, place)?,
+        (b"del", [job, place @ ..]) => operate(job, Procedure::Delete, place)?,
+        (b"mem", [job, place @ ..]) => operate(job, Procedure::Member, place)?,
+        (b"commit", [job]) => Call::Commit(small(job)?),
+        (b"abort", [job]) => Call::Abort(small(job)?),
         _ => return None,
     })
 }
 
-fn operate(job: &[u8], procedure: Procedure, place: &[&[u8]]) -> Option<Command> {
-    Some(Command::Operate(small(job)?, procedure, address(place)?))
+fn parse_change(word: &[u8], numbers: &[&[u8]]) -> Option<Change> {
+    Some(match (word, numbers) {
+        (b"tile", [place, key]) => Change::Tile(count(place)?, count(key)?),
+        (b"entry", [place, entry]) => Change::Entry(count(place)?, natural(entry)?),
+        (b"byte", [place, byte]) => Change::Byte(count(place)?, small(byte)?),
+        (b"tiles", [used]) => Change::Tiles(count(used)?),
+        (b"operations", [used]) => Change::Operations(count(used)?),
+        (b"journal", [used]) => Change::Journal(count(used)?),
+        (b"mark", [job, mark]) => Change::Mark(small(job)?, bit(mark)?),
+        (b"rule", [number]) => Change::Rule(rule(number)?),
+        _ => return None,
+    })
+}
+
+fn operate(job: &[u8], procedure: Procedure, place: &[&[u8]]) -> Option<Call> {
+    Some(Call::Operate(small(job)?, procedure, address(place)?))
 }
 
 fn address(numbers: &[&[u8]]) -> Option<Address> {
@@ -102,6 +126,16 @@ fn count(text: &[u8]) -> Option<u32> {
 
 fn small(text: &[u8]) -> Option<u8> {
     natural(text).and_then(|value| u8::try_from(value).ok())
+}
+
+fn bit(text: &[u8]) -> Option<bool> {
+    small(text)
+        .filter(|number| *number <= 1)
+        .map(|number| number == 1)
+}
+
+fn rule(text: &[u8]) -> Option<Rule> {
+    small(text).and_then(Rule::from_number)
 }
 
 fn signed(text: &[u8]) -> Option<i32> {

@@ -81,6 +81,14 @@ impl Kind {
     pub fn answers_ok(self) -> bool {
         self != Kind::Missed
     }
+
+    /// Whether the operation changed the tiles, so that undoing it does, too.
+    pub fn changes_tiles(self) -> bool {
+        match self {
+            Kind::Added | Kind::Removed => true,
+            Kind::AlreadyThere | Kind::AlreadyGone | Kind::Seen | Kind::Missed => false,
+        }
+    }
 }
 
 /// What undoes an operation.

@@ -31,9 +31,10 @@ impl Refusal {
 
     /// The holder's job number, 0 for every refusal that names none.
     pub fn holder(self) -> u8 {
-        match self {
-            Refusal::Held(job) => job,
-            _ => 0,
+        if let Refusal::Held(job) = self {
+            job
+        } else {
+            0
         }
     }
 }

@@ -1,5 +1,7 @@
 //! The session record and the lent tables, as plain numbers.
 
+use crate::rule::Rule;
+
 pub const JOBS: usize = 64;
 pub const MOST_TILES: usize = 4096;
 pub const MOST_OPERATIONS: usize = 1024;
@@ -23,13 +25,14 @@ impl Tables {
     }
 }
 
-/// One open mark for each job and the three counts of what is used.
+/// One open mark for each job, the three counts of what is used, and the rule.
 #[derive(Clone, Debug, PartialEq, Eq)]
 pub struct Session {
     pub open: [bool; JOBS],
     pub tiles: u32,
     pub operations: u32,
     pub journal: u32,
+    pub rule: Rule,
 }
 
 impl Session {
@@ -39,6 +42,7 @@ impl Session {
             tiles: 0,
             operations: 0,
             journal: 0,
+            rule: Rule::EachAlone,
         }
     }
 }

@@ -1,11 +1,12 @@
-//! What makes tables sound, rule by rule on the plain numbers. The service decides it while it
-//! decodes; this second wording is for tests and for the census of damaged tables.
+//! What makes tables sound, requirement by requirement on the plain numbers. The service decides
+//! it while it decodes; this second wording is for tests and for the census of damaged tables.
 
+use crate::rule::Rule;
 use crate::session::{length_of, Session, Tables, JOBS};
 use crate::tile::Tile;
 
 #[derive(Clone, Copy, Debug, PartialEq, Eq, PartialOrd, Ord)]
-pub enum Rule {
+pub enum Requirement {
     TileLength,
     OperationLength,
     JournalLength,
@@ -22,30 +23,47 @@ pub enum Rule {
     AddedIsPresent,
     RemovedIsAbsent,
     NothingLater,
+    ChangesAlternate,
+    OneJobOnward,
     TileRoom,
     JournalRoom,
 }
 
-pub const RULES: [Rule; 18] = [
-    Rule::TileLength,
-    Rule::OperationLength,
-    Rule::JournalLength,
-    Rule::TileCount,
-    Rule::OperationCount,
-    Rule::JournalCount,
-    Rule::TileKey,
-    Rule::TileOrder,
-    Rule::TileRest,
-    Rule::EntryKind,
-    Rule::EntryJob,
-    Rule::EntryKey,
-    Rule::EntryRest,
-    Rule::AddedIsPresent,
-    Rule::RemovedIsAbsent,
-    Rule::NothingLater,
-    Rule::TileRoom,
-    Rule::JournalRoom,
+pub const REQUIREMENTS: [Requirement; 20] = [
+    Requirement::TileLength,
+    Requirement::OperationLength,
+    Requirement::JournalLength,
+    Requirement::TileCount,
+    Requirement::OperationCount,
+    Requirement::JournalCount,
+    Requirement::TileKey,
+    Requirement::TileOrder,
+    Requirement::TileRest,
+    Requirement::EntryKind,
+    Requirement::EntryJob,
+    Requirement::EntryKey,
+    Requirement::EntryRest,
+    Requirement::AddedIsPresent,
+    Requirement::RemovedIsAbsent,
+    Requirement::NothingLater,
+    Requirement::ChangesAlternate,
+    Requirement::OneJobOnward,
+    Requirement::TileRoom,
+    Requirement::JournalRoom,
 ];
+
+/// The requirements of a rule. Three are asked by one rule only; the others by both, though rule 2
+/// asks for presence, absence and room in its own way.
+pub fn requirements_of(rule: Rule) -> impl Iterator<Item = Requirement> {
+    let asked = move |requirement: &Requirement| match rule {
+        Rule::EachAlone => {
+            *requirement != Requirement::ChangesAlternate
+                && *requirement != Requirement::OneJobOnward
+        }
+        Rule::JobAsOne => *requirement != Requirement::NothingLater,
+    };
+    REQUIREMENTS.iter().copied().filter(asked)
+}
 
 pub fn kind_of(entry: u64) -> u64 {
     entry >> 40
@@ -59,6 +77,11 @@ pub fn key_of(entry: u64) -> u32 {
     entry as u32
 }
 
+/// Whether the entry is of a kind that changed its tile.
+pub fn is_change(entry: u64) -> bool {
+    kind_of(entry) == 1 || kind_of(entry) == 3
+}
+
 /// A key is valid only if it comes from an address.
 pub fn is_key(key: u32) -> bool {
     let zoom = (key >> 28) as u8;
@@ -67,7 +90,7 @@ pub fn is_key(key: u32) -> bool {
     Tile::at(zoom, column, row).map(Tile::key) == Some(key)
 }
 
-/// The tables as the rules see them: a count past the length uses every place.
+/// The tables as the requirements see them: a count past the length uses every place.
 struct View<'a> {
     session: &'a Session,
     tables: &'a Tables,
@@ -79,55 +102,43 @@ fn used<T>(places: &[T], count: u32) -> &[T] {
     places.get(..length_of(count)).unwrap_or(places)
 }
 
-/// The rules that are broken, each looked at on its own.
-pub fn broken(session: &Session, tables: &Tables) -> Vec<Rule> {
+/// The requirements of the session's rule that are broken, each looked at on its own.
+pub fn broken(session: &Session, tables: &Tables) -> Vec<Requirement> {
     let view = View {
         session,
         tables,
         tiles: used(&tables.tiles, session.tiles),
         entries: used(&tables.operations, session.operations),
     };
-    let breaks = |rule: &Rule| !view.keeps(*rule);
-    RULES.iter().copied().filter(breaks).collect()
+    let broken = requirements_of(session.rule).filter(|requirement| !view.keeps(*requirement));
+    broken.collect()
 }
 
 impl View<'_> {
-    fn keeps(&self, rule: Rule) -> bool {
-        match rule {
-            Rule::TileLength => (1..=4096).contains(&self.tables.tiles.len()),
-            Rule::OperationLength => (1..=1024).contains(&self.tables.operations.len()),
-            Rule::JournalLength => self.tables.journal.len() <= 65_536,
-            Rule::TileCount => length_of(self.session.tiles) <= self.tables.tiles.len(),
-            Rule::OperationCount => {
-                length_of(self.session.operations) <= self.tables.operations.len()
-            }
-            Rule::JournalCount => length_of(self.session.journal) <= self.tables.journal.len(),
-            Rule::TileKey => self.tiles.iter().all(|key| is_key(*key)),
-            Rule::TileOrder => self.tiles.windows(2).all(|pair| pair[0] < pair[1]),
-            Rule::TileRest => is_clear(&self.tables.tiles[self.tiles.len()..]),
-            Rule::EntryRest => is_clear(&self.tables.operations[self.entries.len()..]),
-            _ => self.entries_keep(rule),
-        }
-    }
-
-    fn entries_keep(&self, rule: Rule) -> bool {
+    fn keeps(&self, requirement: Requirement) -> bool {
+        let (session, tables) = (self.session, self.tables);
         let mut entries = self.entries.iter().copied();
-        match rule {
-            Rule::EntryKind => entries.all(|entry| (1..=6).contains(&kind_of(entry))),
-            Rule::EntryJob => entries.all(|entry| self.is_open(job_of(entry))),
-            Rule::EntryKey => entries.all(|entry| is_key(key_of(entry))),
-            Rule::AddedIsPresent => entries.all(|entry| kind_of(entry) != 1 || self.has(entry)),
-            Rule::RemovedIsAbsent => entries.all(|entry| kind_of(entry) != 3 || !self.has(entry)),
-            Rule::NothingLater => (0..self.entries.len()).all(|place| self.is_last(place)),
-            Rule::TileRoom => {
-                let removed = entries.filter(|entry| kind_of(*entry) == 3).count();
-                self.tiles.len() + removed <= self.tables.tiles.len()
-            }
-            _ => {
-                let open = self.session.open.iter().filter(|mark| **mark).count();
-                let taken = length_of(self.session.journal);
-                self.tables.journal.len().saturating_sub(taken) >= 4 * open
-            }
+        match requirement {
+            Requirement::TileLength => (1..=4096).contains(&tables.tiles.len()),
+            Requirement::OperationLength => (1..=1024).contains(&tables.operations.len()),
+            Requirement::JournalLength => tables.journal.len() <= 65_536,
+            Requirement::TileCount => length_of(session.tiles) <= tables.tiles.len(),
+            Requirement::OperationCount => length_of(session.operations) <= tables.operations.len(),
+            Requirement::JournalCount => length_of(session.journal) <= tables.journal.len(),
+            Requirement::TileKey => self.tiles.iter().all(|key| is_key(*key)),
+            Requirement::TileOrder => self.tiles.windows(2).all(|pair| pair[0] < pair[1]),
+            Requirement::TileRest => is_clear(&tables.tiles[self.tiles.len()..]),
+            Requirement::EntryKind => entries.all(|entry| (1..=6).contains(&kind_of(entry))),
+            Requirement::EntryJob => entries.all(|entry| self.is_open(job_of(entry))),
+            Requirement::EntryKey => entries.all(|entry| is_key(key_of(entry))),
+            Requirement::EntryRest => is_clear(&tables.operations[self.entries.len()..]),
+            Requirement::AddedIsPresent => self.says_truly(1, true),
+            Requirement::RemovedIsAbsent => self.says_truly(3, false),
+            Requirement::NothingLater => self.changes().all(|place| self.later(place).count() == 0),
+            Requirement::ChangesAlternate => self.changes().all(|place| self.is_turned(place)),
+            Requirement::OneJobOnward => self.changes().all(|place| self.keeps_its_job(place)),
+            Requirement::TileRoom => self.tiles.len() + self.spoken_for() <= tables.tiles.len(),
+            Requirement::JournalRoom => self.has_room_for_endings(),
         }
     }
 
@@ -139,12 +150,65 @@ impl View<'_> {
         self.tiles.contains(&key_of(entry))
     }
 
-    /// Whether no later entry has the tile of the entry there, if its kind asks for that.
-    fn is_last(&self, place: usize) -> bool {
-        let entry = self.entries[place];
-        let mut later = self.entries[place + 1..].iter();
-        let asks = kind_of(entry) == 1 || kind_of(entry) == 3;
-        !asks || later.all(|other| key_of(*other) != key_of(entry))
+    /// The places of the changing entries.
+    fn changes(&self) -> impl Iterator<Item = usize> + '_ {
+        (0..self.entries.len()).filter(|place| is_change(self.entries[*place]))
+    }
+
+    /// The entries behind that place that have its tile.
+    fn later(&self, place: usize) -> impl Iterator<Item = u64> + '_ {
+        let same_tile = move |entry: &u64| key_of(*entry) == key_of(self.entries[place]);
+        self.entries[place + 1..].iter().copied().filter(same_tile)
+    }
+
+    fn is_last_change(&self, place: usize) -> bool {
+        !self.later(place).any(is_change)
+    }
+
+    /// Whether the entries of this kind, by rule 2 only the last changes among them, have their
+    /// tile present or absent as their kind says.
+    fn says_truly(&self, kind: u64, present: bool) -> bool {
+        let of_kind = self
+            .changes()
+            .filter(|place| kind_of(self.entries[*place]) == kind);
+        let mut asked = of_kind.filter(|place| match self.session.rule {
+            Rule::EachAlone => true,
+            Rule::JobAsOne => self.is_last_change(*place),
+        });
+        asked.all(|place| self.has(self.entries[place]) == present)
+    }
+
+    /// Whether the next change of the tile, if there is one, is of the other kind.
+    fn is_turned(&self, place: usize) -> bool {
+        let next = self.later(place).find(|entry| is_change(*entry));
+        next.map_or(true, |entry| kind_of(entry) != kind_of(self.entries[place]))
+    }
+
+    fn keeps_its_job(&self, place: usize) -> bool {
+        let job = job_of(self.entries[place]);
+        self.later(place).all(|entry| job_of(entry) == job)
+    }
+
+    /// Places besides those of the tiles: by rule 1 one for each entry of kind 3, by rule 2 one
+    /// for each absent tile that has such an entry.
+    fn spoken_for(&self) -> usize {
+        let removed = self.entries.iter().filter(|entry| kind_of(**entry) == 3);
+        match self.session.rule {
+            Rule::EachAlone => removed.count(),
+            Rule::JobAsOne => {
+                let absent = removed.filter(|entry| !self.has(**entry));
+                let mut keys: Vec<u32> = absent.map(|entry| key_of(*entry)).collect();
+                keys.sort_unstable();
+                keys.dedup();
+                keys.len()
+            }
+        }
+    }
+
+    fn has_room_for_endings(&self) -> bool {
+        let open = self.session.open.iter().filter(|mark| **mark).count();
+        let taken = length_of(self.session.journal);
+        self.tables.journal.len().saturating_sub(taken) >= 4 * open
     }
 }
 

@@ -1,7 +1,8 @@
 //! The service's state in its decoded form: sets and lists in place of tables of numbers.
 
-use crate::operation::{Admitted, Kind, Procedure};
+use crate::operation::{Admitted, Kind};
 use crate::reply::Refusal;
+use crate::rule::Rule;
 use crate::session::{count_of, length_of, Session, Tables};
 use crate::session::{JOBS, MOST_JOURNAL, MOST_OPERATIONS, MOST_TILES};
 use crate::tile::Tile;
@@ -15,6 +16,7 @@ pub const ENDING_BYTES: usize = 4;
 
 #[derive(Clone, Debug, PartialEq, Eq)]
 pub struct State {
+    pub rule: Rule,
     pub tiles: BTreeSet<Tile>,
     pub tile_places: usize,
     pub admitted: Vec<Admitted>,
@@ -81,7 +83,12 @@ fn fill<T: Copy + Default>(places: &mut [T], numbers: impl Iterator<Item = T>) {
 
 impl State {
     /// The state a start gives on this tile table; none if it would not be sound.
-    pub fn started(tiles: &[u32], count: u32, operation_places: usize) -> Option<State> {
+    pub fn started(
+        rule: Rule,
+        tiles: &[u32],
+        count: u32,
+        operation_places: usize,
+    ) -> Option<State> {
         let tile_places = tiles.len();
         let lengths_fit = (1..=MOST_TILES).contains(&tile_places)
             && (1..=MOST_OPERATIONS).contains(&operation_places);
@@ -89,6 +96,7 @@ impl State {
             return None;
         }
         Some(State {
+            rule,
             tiles: decode_tiles(tiles, count)?,
             tile_places,
             admitted: Vec::new(),
@@ -99,7 +107,9 @@ impl State {
 
     /// The state that the lent tables stand for; none if they are not sound.
     pub fn decode(session: &Session, tables: &Tables) -> Option<State> {
-        let mut state = State::started(&tables.tiles, session.tiles, tables.operations.len())?;
+        let operation_places = tables.operations.len();
+        let (rule, count) = (session.rule, session.tiles);
+        let mut state = State::started(rule, &tables.tiles, count, operation_places)?;
         state.open = decode_open(&session.open);
         let entries = used_places(&tables.operations, session.operations)?;
         let admitted: Option<Vec<Admitted>> = entries
@@ -110,37 +120,13 @@ impl State {
         let free = free_bytes(session, tables)?;
         let sound = tables.journal.len() <= MOST_JOURNAL
             && free >= ENDING_BYTES * state.open.len()
-            && state.recoveries_stand()
+            && state.changes_stand()
             && state.places_spoken_for() <= state.tile_places;
         if sound {
             Some(state)
         } else {
             None
         }
-    }
-
-    /// Whether every recovery finds its tile as the operation left it. Looked at backwards, no
-    /// tile of such an operation may have been seen already.
-    fn recoveries_stand(&self) -> bool {
-        let mut later: BTreeSet<Tile> = BTreeSet::new();
-        self.admitted.iter().rev().all(|entry| {
-            let untouched_since = later.insert(entry.tile);
-            let present = self.tiles.contains(&entry.tile);
-            match entry.kind {
-                Kind::Added => present && untouched_since,
-                Kind::Removed => !present && untouched_since,
-                _ => true,
-            }
-        })
-    }
-
-    /// Tile places in use, with those that an unfinished delete may need back.
-    fn places_spoken_for(&self) -> usize {
-        let removed = self
-            .admitted
-            .iter()
-            .filter(|entry| entry.kind == Kind::Removed);
-        self.tiles.len() + removed.count()
     }
 
     pub fn encode_tiles(&self, places: &mut [u32]) -> u32 {
@@ -150,6 +136,7 @@ impl State {
 
     /// Writes the state into the session and the tables, all but the journal.
     pub fn encode(&self, session: &mut Session, tables: &mut Tables) {
+        session.rule = self.rule;
         session.tiles = self.encode_tiles(&mut tables.tiles);
         fill(
             &mut tables.operations,
@@ -177,26 +164,6 @@ impl State {
         }
     }
 
-    /// What the operation of an open job would be admitted as, or why it is refused.
-    pub fn examine(&self, job: u8, procedure: Procedure, tile: Tile) -> Result<Admitted, Refusal> {
-        let kind = Kind::of(procedure, self.tiles.contains(&tile));
-        let wanted = Admitted { kind, job, tile };
-        let holder = self
-            .admitted
-            .iter()
-            .find(|entry| !wanted.commutes_with(entry.recovery()));
-        if let Some(entry) = holder {
-            return Err(Refusal::Held(entry.job));
-        }
-        if kind == Kind::Added && self.places_spoken_for() == self.tile_places {
-            return Err(Refusal::NoTileRoom);
-        }
-        if self.admitted.len() == self.operation_places {
-            return Err(Refusal::OperationsFull);
-        }
-        Ok(wanted)
-    }
-
     pub fn admit(&mut self, wanted: Admitted) {
         wanted.run(&mut self.tiles);
         self.admitted.push(wanted);
@@ -208,7 +175,8 @@ impl State {
         self.open.remove(&job);
     }
 
-    /// Ends a job and undoes what it did, newest first.
+    /// Ends a job and undoes what it did. Newest first: by rule 2 a job may have changed a tile
+    /// more than once.
     pub fn abort(&mut self, job: u8) {
         for entry in self.admitted.iter().rev().filter(|entry| entry.job == job) {
             entry.recovery().run(&mut self.tiles);

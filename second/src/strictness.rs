@@ -2,14 +2,17 @@
 //! tables or rules: it is what they are tested against.
 
 use crate::operation::{Procedure, Recovery};
+use crate::rule::Rule;
 use crate::tile::Tile;
-use std::collections::BTreeSet;
+use std::collections::{BTreeMap, BTreeSet};
 
 pub type Tiles = BTreeSet<Tile>;
 
-/// An operation of a history that is not struck out.
+/// An operation of a history that is not struck out. Each open begins a transaction of its own,
+/// also where its job's number was used before.
 #[derive(Clone, Copy, Debug, PartialEq, Eq)]
 pub struct Step {
+    pub transaction: usize,
     pub procedure: Procedure,
     pub tile: Tile,
     pub ok: bool,
@@ -44,13 +47,16 @@ pub fn inverse(procedure: Procedure, tile: Tile, tiles: &Tiles) -> Recovery {
     match (procedure, tiles.contains(&tile)) {
         (Procedure::Insert, false) => Recovery::Delete(tile),
         (Procedure::Delete, true) => Recovery::Insert(tile),
-        _ => Recovery::Skip,
+        (Procedure::Insert, true) | (Procedure::Delete, false) | (Procedure::Member, _) => {
+            Recovery::Skip
+        }
     }
 }
 
 /// The step that a procedure would be on these tiles.
-pub fn step_on(procedure: Procedure, tile: Tile, tiles: &Tiles) -> Step {
+pub fn step_on(transaction: usize, procedure: Procedure, tile: Tile, tiles: &Tiles) -> Step {
     Step {
+        transaction,
         procedure,
         tile,
         ok: perform(procedure, tile, &mut tiles.clone()),
@@ -72,35 +78,47 @@ pub fn run<'a>(start: &Tiles, steps: impl Iterator<Item = &'a Step>) -> Option<R
     Some(Run { tiles, most })
 }
 
-/// Every choice of which unfinished steps to drop, each as the list of what is kept.
-pub fn choices(steps: &[Step]) -> Vec<Vec<Step>> {
-    let mut kept: Vec<Vec<Step>> = vec![Vec::new()];
-    for step in steps {
-        let dropped = if step.finished {
-            Vec::new()
-        } else {
-            kept.clone()
+/// Places of unfinished steps that are dropped together or not at all.
+pub type Group = Vec<usize>;
+
+/// What fails as one: by rule 1 each unfinished step, by rule 2 all steps of an open job.
+pub fn groups(rule: Rule, steps: &[Step]) -> Vec<Group> {
+    let mut groups: BTreeMap<usize, Group> = BTreeMap::new();
+    let unfinished = steps.iter().enumerate().filter(|(_, step)| !step.finished);
+    for (place, step) in unfinished {
+        let name = match rule {
+            Rule::EachAlone => place,
+            Rule::JobAsOne => step.transaction,
         };
-        kept.iter_mut().for_each(|list| list.push(*step));
-        kept.extend(dropped);
+        groups.entry(name).or_default().push(place);
     }
-    kept
+    groups.into_values().collect()
 }
 
-/// Whether one choice runs with its answers, and each of its unfinished steps can be undone.
-fn choice_stands(start: &Tiles, kept: &[Step]) -> bool {
-    let left = match run(start, kept.iter()) {
+/// The steps that are left when these groups are dropped.
+fn without(steps: &[Step], dropped: &BTreeSet<Group>) -> Vec<Step> {
+    let is_dropped = |place: &usize| dropped.iter().any(|group| group.contains(place));
+    let kept = (0..steps.len()).filter(|place| !is_dropped(place));
+    kept.map(|place| steps[place]).collect()
+}
+
+/// Whether the rest of one choice runs with its answers, and each group still in can be undone.
+fn choice_stands(start: &Tiles, steps: &[Step], all: &[Group], dropped: &BTreeSet<Group>) -> bool {
+    let left = match run(start, without(steps, dropped).iter()) {
         None => return false,
         Some(run) => run.tiles,
     };
-    (0..kept.len())
-        .filter(|place| !kept[*place].finished)
-        .all(|place| {
-            let mut undone = left.clone();
-            kept[place].recovery.run(&mut undone);
-            // The rest is run for the tiles it leaves; its answers are another choice's matter.
-            undone == tiles_after(start, kept[..place].iter().chain(&kept[place + 1..]))
-        })
+    let mut still_in = all.iter().filter(|group| !dropped.contains(*group));
+    still_in.all(|group| {
+        let mut undone = left.clone();
+        for place in group.iter().rev() {
+            steps[*place].recovery.run(&mut undone);
+        }
+        let mut dropped_too = dropped.clone();
+        dropped_too.insert(group.clone());
+        // The rest is run for the tiles it leaves; its answers are another choice's matter.
+        undone == tiles_after(start, without(steps, &dropped_too).iter())
+    })
 }
 
 fn tiles_after<'a>(start: &Tiles, steps: impl Iterator<Item = &'a Step>) -> Tiles {
@@ -111,18 +129,18 @@ fn tiles_after<'a>(start: &Tiles, steps: impl Iterator<Item = &'a Step>) -> Tile
     tiles
 }
 
-/// Definition 1, over all choices.
-pub fn strict(start: &Tiles, steps: &[Step]) -> bool {
-    choices(steps).iter().all(|kept| choice_stands(start, kept))
+/// Definition 1, over all choices of what to drop; a group's recoveries run newest first.
+pub fn strict(rule: Rule, start: &Tiles, steps: &[Step]) -> bool {
+    let all = groups(rule, steps);
+    let mut choices = subsets(&all).into_iter();
+    choices.all(|dropped| choice_stands(start, steps, &all, &dropped))
 }
 
-/// The most tiles that any choice of the steps needs, with the new step kept.
-pub fn most_tiles(start: &Tiles, steps: &[Step], new: Step) -> usize {
-    let needs = choices(steps).into_iter().filter_map(|mut kept| {
-        kept.push(new);
-        run(start, kept.iter()).map(|run| run.most)
-    });
-    needs.max().unwrap_or(0)
+/// The most tiles that there are at any time in any choice that runs.
+pub fn most_tiles(rule: Rule, start: &Tiles, steps: &[Step]) -> usize {
+    let choices = subsets(&groups(rule, steps)).into_iter();
+    let runs = choices.filter_map(|dropped| run(start, without(steps, &dropped).iter()));
+    runs.map(|run| run.most).max().unwrap_or(0)
 }
 
 /// Definition 2, over every set made of the two tiles the pair and the recovery can speak of.
@@ -156,12 +174,12 @@ fn pair_is_legal(step: Step, tiles: &Tiles) -> bool {
     answer == step.ok && after == *tiles
 }
 
-pub fn subsets(tiles: &[Tile]) -> Vec<Tiles> {
-    let mut sets = vec![Tiles::new()];
-    for tile in tiles {
-        let mut with: Vec<Tiles> = sets.clone();
+pub fn subsets<T: Clone + Ord>(items: &[T]) -> Vec<BTreeSet<T>> {
+    let mut sets = vec![BTreeSet::new()];
+    for item in items {
+        let mut with: Vec<BTreeSet<T>> = sets.clone();
         with.iter_mut().for_each(|set| {
-            set.insert(*tile);
+            set.insert(item.clone());
         });
         sets.extend(with);
     }

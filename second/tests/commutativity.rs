@@ -2,19 +2,9 @@
 
 mod common;
 
-use common::{tile, A, B};
+use common::{tile, A, B, TABLE};
 use second::operation::{Admitted, Kind, Procedure, Recovery, KINDS};
 use second::strictness::{commutes, inverse, step_on, Step, Tiles};
-
-/// Rows are the kinds 1 to 6; columns are ins =, ins other, del =, del other, skip.
-const TABLE: [[bool; 5]; 6] = [
-    [false, true, false, true, true],
-    [true, true, false, true, true],
-    [false, true, false, true, true],
-    [false, true, true, true, true],
-    [true, true, false, true, true],
-    [false, true, true, true, true],
-];
 
 fn recoveries() -> [Recovery; 5] {
     [
@@ -41,7 +31,7 @@ fn procedure_of(kind: Kind) -> (Procedure, bool) {
 fn step_of(kind: Kind) -> Step {
     let (procedure, present) = procedure_of(kind);
     let found: Tiles = Some(tile(A)).filter(|_| present).into_iter().collect();
-    step_on(procedure, tile(A), &found)
+    step_on(0, procedure, tile(A), &found)
 }
 
 #[test]

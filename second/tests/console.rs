@@ -8,7 +8,7 @@ fn talk(input: &str) -> String {
 
 #[test]
 fn a_session_by_hand() {
-    let input = "lend 2 3 60\nstart 0\nopen 1\nins 1 4 -1 5\nmem 1 4 15 5\nread 4\nread 0\n\
+    let input = "lend 2 3 60\nstart 0 1\nopen 1\nins 1 4 -1 5\nmem 1 4 15 5\nread 4\nread 0\n\
                  commit 1\nread 14\nread 18\nmem 1 4 0 0\nopen 2\nmem 2 4 15 5\nmem 2 4 0 0\n\
                  abort 2\nread 42\nread 46\naddress 4 -1 5\naddress 3 0 0\n";
     let output = "lent 2 3 60\nreply 0 answer 0 holder 0\nreply 0 answer 0 holder 0\n\
@@ -23,15 +23,42 @@ fn a_session_by_hand() {
 
 #[test]
 fn nothing_is_lent_at_the_beginning() {
-    let input = "start 0\nopen 0\nsum\nread 0\nreplay 0 0\nreplay 7 1\ntile 0 0\nbyte 0 0\n";
-    let output = "reply 1 answer 0 holder 0\nreply 1 answer 0 holder 0\nsum 0\nend\n\
+    let input = "start 0 1\nstart 0 2\nopen 0\nsum\nread 0\nreplay 0 0\nreplay 7 1\n\
+                 tile 0 0\nbyte 0 0\n";
+    let output = "reply 1 answer 0 holder 0\nreply 1 answer 0 holder 0\n\
+                  reply 1 answer 0 holder 0\nsum 1\nend\n\
                   reply 1 offset 0 undone 0 count 0\n?\n?\n?\n";
     assert_eq!(talk(input), output);
 }
 
 #[test]
+fn a_session_by_rule_2_by_hand() {
+    let input = "lend 2 6 90\nstart 0 2\nread 0\nopen 1\nins 1 4 -1 5\nmem 1 4 15 5\n\
+                 del 1 4 15 5\nmem 1 4 15 5\nopen 2\nmem 2 4 15 5\nread 4\nread 48\n\
+                 rule 1\nopen 3\nrule 2\nabort 1\nmem 2 4 15 5\n";
+    let output = "lent 2 6 90\nreply 0 answer 0 holder 0\nrule 2 next 4\n\
+                  reply 0 answer 0 holder 0\nreply 0 answer 1 holder 0\n\
+                  reply 0 answer 1 holder 0\nreply 0 answer 1 holder 0\n\
+                  reply 0 answer 0 holder 0\nreply 0 answer 0 holder 0\n\
+                  reply 6 answer 0 holder 1\nopen 1 next 8\nopen 2 next 52\nok\n\
+                  reply 1 answer 0 holder 0\nok\nreply 0 answer 0 holder 0\n\
+                  reply 0 answer 0 holder 0\n";
+    assert_eq!(talk(input), output);
+}
+
+#[test]
+fn a_start_by_rule_2_needs_four_bytes() {
+    let input = "lend 1 1 3\nrule 2\nstart 0 2\nsum\nlend 1 1 4\nstart 0 2\nbyte 3 1\n\
+                 read 0\nbyte 3 2\nread 0\njournal 3\nread 0\nlend 1 1 3\nsum\n";
+    let output = "lent 1 1 3\nok\nreply 9 answer 0 holder 0\nsum 28629151\nlent 1 1 4\n\
+                  reply 0 answer 0 holder 0\nok\nreply 10 offset 0\nok\nrule 2 next 4\n\
+                  ok\ncut\nlent 1 1 3\nsum 28629151\n";
+    assert_eq!(talk(input), output);
+}
+
+#[test]
 fn replay_leaves_the_session_alone() {
-    let input = "lend 2 3 60\nstart 0\nopen 1\nins 1 4 -1 5\nreplay 0 14\ntile 0 0\n\
+    let input = "lend 2 3 60\nstart 0 1\nopen 1\nins 1 4 -1 5\nreplay 0 14\ntile 0 0\n\
                  replay 0 14\nreplay 0 61\nreplay 9 14\nsum\ncommit 1\n";
     let output = "lent 2 3 60\nreply 0 answer 0 holder 0\nreply 0 answer 0 holder 0\n\
                   reply 0 answer 1 holder 0\nreply 1 offset 0 undone 0 count 0\nok\n\
@@ -42,12 +69,12 @@ fn replay_leaves_the_session_alone() {
 
 #[test]
 fn the_sum_runs_over_everything() {
-    let input = "lend 2 1 2\nmark 63 1\nmark 0 1\ntiles 7\noperations 8\njournal 9\n\
+    let input = "lend 2 1 2\nmark 63 1\nmark 0 1\ntiles 7\noperations 8\njournal 9\nrule 2\n\
                  tile 0 4294967295\ntile 1 3\nentry 0 18446744073709551615\nbyte 1 255\nsum\n";
     let mut numbers: Vec<u128> = vec![0; 64];
     numbers[0] = 1;
     numbers[63] = 1;
-    numbers.extend([7, 8, 9]);
+    numbers.extend([7, 8, 9, 2]);
     numbers.extend([4_294_967_295, 3, 18_446_744_073_709_551_615, 0, 255]);
     let modulus = 4_294_967_291;
     let due = numbers
@@ -58,10 +85,10 @@ fn the_sum_runs_over_everything() {
 
 /// Lines that are no command where 2 tile places, 3 operation places and 60 bytes are lent.
 #[rustfmt::skip]
-const BAD_LINES: [&[u8]; 64] = [
+const BAD_LINES: [&[u8]; 75] = [
     b"", b" ", b"sum ", b" sum", b"sum 0", b"SUM", b"sum\r", b"sum\t", b"open", b"open  1",
     b"open 1 ", b"open 01", b"open +1", b"open -1", b"open 256", b"open 1 2", b"open\t1",
-    b"open 1\r", b"open \xff", b"\xffopen 1", b"open 0x1", b"start 4294967296", b"start -1",
+    b"open 1\r", b"open \xff", b"\xffopen 1", b"open 0x1", b"start 4294967296 1", b"start -1 1",
     b"address 256 0 0", b"address 4 2147483648 0", b"address 4 -2147483649 0",
     b"address 4 0 2147483648", b"address 4 -0 0", b"address 4 0 -0", b"address 4 00 0",
     b"address 4 --1 0", b"address 4 - 0", b"address 4 0", b"address 4 0 0 0",
@@ -71,13 +98,15 @@ const BAD_LINES: [&[u8]; 64] = [
     b"read 4294967296", b"read", b"replay 0 61", b"replay 0", b"replay 0 0 0", b"tiles -1",
     b"operations 4294967296", b"journal 00", b"commit", b"abort 1 1",
     b"ins 1 4 0", b"ins 1 4 0 0 0", b"ins 256 4 0 0", b"ins", b"ins     ",
+    b"start", b"start 0", b"start 0 0", b"start 0 3", b"start 0 01", b"start 0 1 1", b"start 0 256",
+    b"rule", b"rule 0", b"rule 3", b"rule 1 1",
 ];
 
 #[test]
 fn what_is_no_command_is_answered_by_a_question_mark() {
     let mut console = Console::new();
     console.answer(b"lend 2 3 60");
-    console.answer(b"start 0");
+    console.answer(b"start 0 1");
     let before = console.clone();
     for line in BAD_LINES {
         assert_eq!(console.answer(line), "?", "{}", line.escape_ascii());
@@ -121,7 +150,7 @@ fn reading_uses_all_lent_bytes_where_the_count_is_larger() {
 
 #[test]
 fn what_stands_after_the_last_line_feed_is_not_answered() {
-    assert_eq!(talk("sum\nsum"), "sum 0\n");
+    assert_eq!(talk("sum\nsum"), "sum 1\n");
     assert_eq!(talk("sum"), "");
     assert_eq!(talk(""), "");
     assert_eq!(talk("\n\n"), "?\n?\n");

@@ -1,15 +1,18 @@
 //! The scripts and journals that are compared reach everything that can be answered.
 
 use second::census::{count_journal, count_script, table, Counts};
+use second::census::{name_of, name_of_broken, name_of_occasion};
 use second::console::answers;
-use second::journals::journal;
+use second::journals::{journal, KINDS};
+use second::occasions::OCCASIONS;
+use second::rule::RULES;
 use second::scripts::script;
-use second::soundness::RULES;
+use second::soundness::requirements_of;
 
 /// These seeds leave out the script that fills the largest tables, which is slow in a test build.
 const SEEDS: std::ops::Range<u64> = 6..37;
-const LINES: usize = 1200;
-const JOURNALS: u64 = 40;
+const LINES: usize = 3000;
+const JOURNALS: u64 = 4 * KINDS;
 
 fn census() -> Counts {
     let mut counts = Counts::new();
@@ -22,46 +25,69 @@ fn census() -> Counts {
     counts
 }
 
-/// The replies that each kind of call can give.
-const REPLIES: [(&str, &[u8]); 9] = [
-    ("operation", &[0, 1, 2, 3, 5, 6, 7, 8, 9]),
-    ("open", &[0, 1, 2, 4, 9]),
-    ("commit", &[0, 1, 2, 3]),
-    ("abort", &[0, 1, 2, 3]),
-    ("start", &[0, 1]),
+/// The replies that each kind of call can give, by the rule that decides.
+const REPLIES: [(&str, &[u8]); 16] = [
+    ("start 1", &[0, 1]),
+    ("start 2", &[0, 1, 9]),
+    ("open 1", &[0, 1, 2, 4, 9]),
+    ("open 2", &[0, 1, 2, 4, 9]),
+    ("operation 1", &[0, 1, 2, 3, 5, 6, 7, 8, 9]),
+    ("operation 2", &[0, 1, 2, 3, 5, 6, 7, 8, 9]),
+    ("commit 1", &[0, 1, 2, 3]),
+    ("commit 2", &[0, 1, 2, 3]),
+    ("abort 1", &[0, 1, 2, 3]),
+    ("abort 2", &[0, 1, 2, 3]),
     ("address", &[0, 5]),
     ("read", &[10]),
-    ("replay", &[0, 1, 10, 11, 12]),
-    ("printed", &[0, 10, 11, 12]),
+    ("replay 1", &[0, 1, 10, 11, 12]),
+    ("replay 2", &[0, 1, 10, 11, 12]),
+    ("printed 1", &[0, 10, 11, 12]),
+    ("printed 2", &[0, 10, 11, 12]),
 ];
 
-const OTHER_ANSWERS: [&str; 8] = [
-    "any line   ?",
-    "read       open",
-    "read       operation",
-    "read       commit",
-    "read       abort",
-    "read       end",
-    "read       cut",
-    "printed    too long",
+const OTHER_ANSWERS: [(&str, &str); 12] = [
+    ("any line", "?"),
+    ("lend", "?"),
+    ("replay 1", "?"),
+    ("change", "?"),
+    ("read", "open"),
+    ("read", "operation"),
+    ("read", "commit"),
+    ("read", "abort"),
+    ("read", "rule"),
+    ("read", "end"),
+    ("read", "cut"),
+    ("printed 1", "too long"),
 ];
+
+/// The names of everything that can occur.
+fn all_names() -> Vec<String> {
+    let broken = RULES.iter().flat_map(|rule| {
+        requirements_of(*rule).map(|requirement| name_of_broken(*rule, requirement))
+    });
+    let replies = REPLIES.iter().flat_map(|(group, numbers)| {
+        let sorts = numbers.iter().map(|number| format!("reply {:>2}", number));
+        sorts.map(|sort| name_of(group, &sort))
+    });
+    let others = OTHER_ANSWERS
+        .iter()
+        .map(|(group, sort)| name_of(group, sort));
+    let occasions = OCCASIONS.iter().map(|occasion| name_of_occasion(*occasion));
+    broken
+        .chain(replies)
+        .chain(others)
+        .chain(occasions)
+        .collect()
+}
 
 #[test]
-fn every_answer_and_every_broken_rule_occurs() {
+fn every_answer_every_broken_requirement_and_every_occasion_occurs() {
     let counts = census();
-    let seen = |name: String| assert!(counts.contains_key(&name), "{}\n{}", name, table(&counts));
-    for rule in RULES {
-        seen(format!("broken alone: {:?}", rule));
-    }
-    for (call, numbers) in REPLIES {
-        let names = numbers
-            .iter()
-            .map(|number| format!("{:<10} reply {:>2}", call, number));
-        names.for_each(seen);
-    }
-    for name in OTHER_ANSWERS {
-        seen(name.to_string());
-    }
+    let missing: Vec<String> = all_names()
+        .into_iter()
+        .filter(|name| !counts.contains_key(name))
+        .collect();
+    assert!(missing.is_empty(), "{:?}\n{}", missing, table(&counts));
 }
 
 #[test]

@@ -44,6 +44,30 @@ fn every_prefix_prints_exactly() {
     assert_eq!(text, "tiles 0 undone 1 stopped 0 at 14\n");
 }
 
+/// By rule 2 job 3 puts a tile into the pack and commits; job 4 replaces it and is cut off.
+#[rustfmt::skip]
+const REPLACED: [u8; 46] = [
+    0x05, 0x00, 0x01, 0x02,
+    0x01, 0x00, 0x01, 0x03, 0x02, 0x00, 0x07, 0x03, 0x01, 0x01, 0x40, 0x03, 0xC0, 0x05,
+    0x03, 0x00, 0x01, 0x03,
+    0x01, 0x00, 0x01, 0x04, 0x02, 0x00, 0x07, 0x04, 0x02, 0x01, 0x40, 0x03, 0xC0, 0x05,
+    0x02, 0x00, 0x07, 0x04, 0x01, 0x01, 0x40, 0x03, 0xC0, 0x05,
+];
+
+#[test]
+fn a_journal_by_rule_2_prints_as_any_other() {
+    let printed = |length| printed_replay(&REPLACED[..length]);
+    assert_eq!(printed(46), "tiles 1 undone 1 stopped 0 at 46\n4 15 5\n");
+    assert_eq!(printed(45), "tiles 1 undone 1 stopped 0 at 36\n4 15 5\n");
+    assert_eq!(printed(4), "tiles 0 undone 0 stopped 0 at 4\n");
+    for length in 0..4 {
+        assert_eq!(printed(length), "tiles 0 undone 0 stopped 0 at 0\n");
+    }
+    // Without its first record it runs by rule 1, which holds the insert.
+    let text = printed_replay(&REPLACED[4..]);
+    assert_eq!(text, "tiles 1 undone 1 stopped 11 at 32\n4 15 5\n");
+}
+
 #[test]
 fn more_than_the_most_bytes_is_too_long() {
     assert_eq!(printed_replay(&vec![1; 65_537]), "too long\n");

@@ -8,18 +8,22 @@ use second::operation::PROCEDURES;
 use second::random::Random;
 
 fn read(journal: &[u8]) -> Reading {
-    let mut reader = Reader::at(journal, 0);
+    read_at(journal, 0)
+}
+
+fn read_at(journal: &[u8], place: usize) -> Reading {
+    let mut reader = Reader::at(journal, place);
     let reading = reader.read();
     let moved = match reading {
         Reading::Whole(record) => record.bytes().len(),
-        _ => 0,
+        Reading::End | Reading::Cut | Reading::Malformed => 0,
     };
-    assert_eq!(reader.place(), moved);
+    assert_eq!(reader.place(), place + moved);
     reading
 }
 
 fn all_records() -> Vec<Record> {
-    let mut records = Vec::new();
+    let mut records = vec![Record::JobAsOne];
     for job in [0, 3, 63] {
         records.extend([Record::Open(job), Record::Commit(job), Record::Abort(job)]);
         records.extend(PROCEDURES.iter().map(|procedure| Record::Operation {
@@ -38,6 +42,7 @@ fn records_are_read_as_they_were_written() {
         assert_eq!(read(&record.bytes()), Reading::Whole(record));
     }
     assert_eq!(Record::Open(3).bytes(), [1, 0, 1, 3]);
+    assert_eq!(Record::JobAsOne.bytes(), [5, 0, 1, 2]);
 }
 
 #[test]
@@ -62,7 +67,7 @@ fn the_field_of_a_cut_record_is_not_looked_at() {
 
 #[test]
 fn the_length_bytes_that_are_there_must_be_right() {
-    for tag in [1, 2, 3, 4] {
+    for tag in [1, 2, 3, 4, 5] {
         assert_eq!(read(&[tag]), Reading::Cut);
         assert_eq!(read(&[tag, 0]), Reading::Cut);
         assert_eq!(read(&[tag, 1]), Reading::Malformed);
@@ -70,7 +75,7 @@ fn the_length_bytes_that_are_there_must_be_right() {
         assert_eq!(read(&[tag, 0, length]), Reading::Cut);
         assert_eq!(read(&[tag, 0, 8 - length]), Reading::Malformed);
     }
-    for tag in [0, 5, 255] {
+    for tag in [0, 6, 255] {
         assert_eq!(read(&[tag]), Reading::Malformed);
     }
 }
@@ -109,6 +114,37 @@ fn wrong_fields_are_malformed() {
 }
 
 #[test]
+fn a_rule_record_is_whole_at_the_beginning_and_with_field_2() {
+    for field in 0..=255 {
+        let due = if field == 2 {
+            Reading::Whole(Record::JobAsOne)
+        } else {
+            Reading::Malformed
+        };
+        assert_eq!(read(&[5, 0, 1, field]), due);
+        assert_eq!(
+            read_at(&[1, 0, 1, 7, 5, 0, 1, field], 4),
+            Reading::Malformed
+        );
+    }
+}
+
+#[test]
+fn a_rule_record_anywhere_else_is_malformed_or_cut() {
+    for before in 1..12 {
+        let mut journal = vec![9; before];
+        journal.extend([5, 0, 1, 2]);
+        assert_eq!(read_at(&journal, before), Reading::Malformed);
+        for length in 1..4 {
+            assert_eq!(read_at(&journal[..before + length], before), Reading::Cut);
+        }
+        assert_eq!(read_at(&journal[..before], before), Reading::End);
+    }
+    assert_eq!(read_at(&[1, 0, 1, 7, 5, 1], 4), Reading::Malformed);
+    assert_eq!(read_at(&[1, 0, 1, 7, 5, 0, 2], 4), Reading::Malformed);
+}
+
+#[test]
 fn places_behind_the_last_byte_are_the_end() {
     let journal = Record::Open(1).bytes();
     for place in [4, 5, 1000, usize::MAX] {
@@ -122,7 +158,7 @@ fn places_behind_the_last_byte_are_the_end() {
 fn whole_records_of_noise_are_written_back_the_same() {
     let mut random = Random::seeded(5);
     for _ in 0..20_000 {
-        let mut bytes: Vec<u8> = (0..10).map(|_| random.byte() % 4).collect();
+        let mut bytes: Vec<u8> = (0..10).map(|_| random.byte() % 6).collect();
         bytes[1] = 0;
         bytes[2] = if bytes[0] == 2 { 7 } else { 1 };
         bytes[6] = random.pick(&[0x40, 0x41, 0xE0]);

@@ -79,6 +79,45 @@ fn each_reason_to_stop() {
     }
 }
 
+/// Each list of records with its reply by rule 2, and without the rule record.
+#[test]
+fn a_replay_runs_by_the_rule_that_the_journal_names() {
+    let open = |job| vec![1, 0, 1, job];
+    let ins = |job| vec![2, 0, 7, job, 1, 1, 0x40, 0, 0, 0];
+    let del = |job| vec![2, 0, 7, job, 2, 1, 0x40, 0, 0, 0];
+    let mem = |job, answer| vec![2, 0, 7, job, 3, answer, 0x40, 0, 0, 0];
+    let cases = [
+        (vec![open(1), ins(1), mem(1, 1)], (0, 11)),
+        (vec![open(1), ins(1), mem(1, 0)], (12, 11)),
+        (vec![open(1), ins(1), del(1)], (0, 11)),
+        (vec![open(1), ins(1), del(1), ins(1), mem(1, 1)], (0, 11)),
+        (vec![open(1), open(2), ins(1), mem(2, 1)], (11, 11)),
+        (vec![open(1), open(2), mem(1, 0), ins(2)], (0, 0)),
+    ];
+    for (records, (by_rule_2, by_rule_1)) in cases {
+        let records = records.concat();
+        let (outcome, ..) = run(&records, 2, 9);
+        assert_eq!(outcome.reply, by_rule_1, "{:?}", records);
+        let (outcome, ..) = run(&[vec![5, 0, 1, 2], records.clone()].concat(), 2, 9);
+        assert_eq!(outcome.reply, by_rule_2, "{:?}", records);
+    }
+}
+
+#[test]
+fn rule_records_elsewhere_or_with_other_fields_stop_a_replay() {
+    let journal = [5, 0, 1, 2, 1, 0, 1, 3, 5, 0, 1, 2, 3, 0, 1, 3];
+    assert_eq!(run(&journal, 1, 1).0, replayed(10, 8, 1, 0));
+    assert_eq!(run(&journal[4..], 1, 1).0, replayed(10, 4, 1, 0));
+    assert_eq!(run(&journal[..11], 1, 1).0, replayed(0, 8, 1, 0));
+    assert_eq!(run(&journal[..4], 1, 1).0, replayed(0, 4, 0, 0));
+    for length in 0..4 {
+        assert_eq!(run(&journal[..length], 1, 1).0, replayed(0, 0, 0, 0));
+    }
+    for field in [0, 1, 3, 255] {
+        assert_eq!(run(&[5, 0, 1, field], 1, 1).0, replayed(10, 0, 0, 0));
+    }
+}
+
 #[test]
 fn a_stopped_replay_leaves_what_the_cut_journal_leaves() {
     let mut stopped = 0;

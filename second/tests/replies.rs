@@ -3,9 +3,7 @@
 mod common;
 
 use common::*;
-use second::reply::numbers;
-use second::service::{self, Address};
-use second::session::{Session, Tables};
+use second::service::Address;
 
 const NO_ROW: Address = Address {
     zoom: 4,
@@ -88,47 +86,6 @@ fn commits_and_aborts_of_jobs_that_are_not_open() {
     assert_eq!(bench.commit(64), refused(2));
     assert_eq!(bench.abort(255), refused(2));
     assert_eq!(bench.open(64), refused(2));
-}
-
-#[test]
-fn a_start_decides_by_tiles_and_lengths() {
-    let cases = [
-        ((0, 1, 0), 1),
-        ((1, 0, 0), 1),
-        ((4097, 1, 0), 1),
-        ((1, 1025, 0), 1),
-        ((1, 1, 65_537), 1),
-        ((1, 1, 0), 0),
-        ((4096, 1024, 65_536), 0),
-    ];
-    for ((tiles, operations, journal), due) in cases {
-        let mut tables = Tables::lent(tiles, operations, journal);
-        tables.operations.iter_mut().for_each(|entry| *entry = 9);
-        tables.journal.iter_mut().for_each(|byte| *byte = 9);
-        let before = tables.clone();
-        let (session, reply) = service::start(&mut tables, 0);
-        assert_eq!(numbers(reply), refused(due));
-        assert_eq!(session, Session::empty());
-        assert_eq!(tables.journal, before.journal);
-        if due == 0 {
-            assert!(tables.operations.iter().all(|entry| *entry == 0));
-        } else {
-            assert_eq!(tables, before);
-        }
-    }
-}
-
-#[test]
-fn a_start_decides_by_the_count() {
-    let key = tile(A).key();
-    for (count, due) in [(0, 1), (1, 0), (2, 1), (3, 1), (u32::MAX, 1)] {
-        let mut tables = Tables::lent(2, 1, 0);
-        tables.tiles[0] = key;
-        let (session, reply) = service::start(&mut tables, count);
-        assert_eq!(numbers(reply), refused(due));
-        assert_eq!(session.tiles, if due == 0 { count } else { 0 });
-        assert_eq!(tables.tiles, [key, 0]);
-    }
 }
 
 #[test]

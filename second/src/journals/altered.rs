@@ -111,7 +111,7 @@ fn answer_of(record: &mut Record, only_members: bool) -> Option<&mut bool> {
         Record::Operation { procedure, ok, .. } => {
             Some(ok).filter(|_| *procedure == Procedure::Member || !only_members)
         }
-        _ => None,
+        Record::Open(_) | Record::Commit(_) | Record::Abort(_) | Record::JobAsOne => None,
     }
 }
 

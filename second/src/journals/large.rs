@@ -1,9 +1,10 @@
 //! Journals up to the last byte, the last tile place and the last operations place, and past them.
 
 use crate::journal::Record;
-use crate::journals::walk::{bytes_of, walk};
+use crate::journals::walk::{bytes_of, head_of, walk};
 use crate::operation::Procedure;
 use crate::random::Random;
+use crate::rule::RULES;
 use crate::session::{MOST_JOURNAL, MOST_OPERATIONS, MOST_TILES};
 use crate::tile::Tile;
 
@@ -38,6 +39,13 @@ pub fn of_edge_length(random: &mut Random) -> Vec<u8> {
 pub fn too_many_tiles(random: &mut Random) -> Vec<u8> {
     let tiles = MOST_TILES - 3 + random.below(6);
     let batch = random.between(500, MOST_OPERATIONS);
+    let mut records = some_head(random);
+    records.extend(inserted(tiles, batch));
+    bytes_of(&records)
+}
+
+/// Job 5 inserts so many tiles, committing batch by batch.
+fn inserted(tiles: usize, batch: usize) -> Vec<Record> {
     let mut records = vec![Record::Open(5)];
     for n in 0..tiles {
         if n % batch == batch - 1 {
@@ -46,13 +54,38 @@ pub fn too_many_tiles(random: &mut Random) -> Vec<u8> {
         records.extend(nth_operation(5, Procedure::Insert, true, n));
     }
     records.push(Record::Commit(5));
+    records
+}
+
+/// The beginning of a journal by either rule. What rule 1 admits is admitted by rule 2 as well.
+fn some_head(random: &mut Random) -> Vec<Record> {
+    head_of(random.pick(&RULES)).into_iter().collect()
+}
+
+/// One job deletes many tiles of a table that is full or almost, and inserts them again, by rule
+/// 2; then it tries new tiles, for which there may be no place.
+pub fn replaced(random: &mut Random) -> Vec<u8> {
+    let tiles = MOST_TILES - random.below(3);
+    let again = random.between(1, MOST_OPERATIONS / 2 + 1);
+    let first = random.below(tiles - again);
+    let mut records = vec![Record::JobAsOne];
+    records.extend(inserted(tiles, MOST_OPERATIONS));
+    records.push(Record::Open(6));
+    for procedure in [Procedure::Delete, Procedure::Insert] {
+        let tiles = first..first + again;
+        records.extend(tiles.filter_map(|n| nth_operation(6, procedure, true, n)));
+    }
+    let new_tiles = tiles..tiles + random.below(4);
+    records.extend(new_tiles.filter_map(|n| nth_operation(6, Procedure::Insert, true, n)));
+    records.push(random.pick(&[Record::Commit(6), Record::Abort(6), Record::Open(7)]));
     bytes_of(&records)
 }
 
 /// Two jobs look at tile after tile, up to the last place of the operations table or past it.
 pub fn too_many_operations(random: &mut Random) -> Vec<u8> {
     let operations = MOST_OPERATIONS - 2 + random.below(5);
-    let mut records = vec![Record::Open(1), Record::Open(2)];
+    let mut records = some_head(random);
+    records.extend([Record::Open(1), Record::Open(2)]);
     for n in 0..operations {
         let job = random.pick(&[1, 2]);
         records.extend(nth_operation(job, Procedure::Member, false, n));

@@ -1,17 +1,20 @@
-//! Random journals: whole, cut, damaged, spliced, refused and too long. A seed gives always the
-//! same journal.
+//! Random journals by both rules: whole, cut, damaged, spliced, refused and too long. A seed gives
+//! always the same journal.
 
 mod altered;
 mod large;
+mod rule_records;
 mod walk;
 
 use crate::random::Random;
 
 /// Every kind of journal comes in its turn, so that each is met often.
+pub const KINDS: u64 = 24;
+
 pub fn journal(seed: u64) -> Vec<u8> {
     let mut random = Random::seeded(seed);
     let random = &mut random;
-    match seed % 20 {
+    match seed % KINDS {
         0 => walk::bytes_of(&walk::short_walk(random)),
         1 => altered::cut(random),
         2..=6 => altered::damaged(random),
@@ -25,7 +28,11 @@ pub fn journal(seed: u64) -> Vec<u8> {
         16 => large::long(random),
         17 => large::of_edge_length(random),
         18 => large::too_many_tiles(random),
-        _ => large::too_many_operations(random),
+        19 => large::too_many_operations(random),
+        20 => large::replaced(random),
+        21 => rule_records::put_in(random),
+        22 => rule_records::at_the_beginning(random),
+        _ => rule_records::left_out(random),
     }
 }
 
@@ -34,13 +41,16 @@ const SHORT: usize = 240;
 
 /// A short journal with anything wrong in it, or nothing.
 pub fn short_journal(random: &mut Random) -> Vec<u8> {
-    let mut journal = match random.below(8) {
+    let mut journal = match random.below(11) {
         0 => altered::cut(random),
         1 => altered::damaged(random),
         2 => altered::with_wrong_tail(random),
         3 => altered::spliced(random),
         4 => altered::with_strangers(random),
         5 => altered::with_wrong_answer(random),
+        6 => rule_records::put_in(random),
+        7 => rule_records::at_the_beginning(random),
+        8 => rule_records::left_out(random),
         _ => walk::bytes_of(&walk::short_walk(random)),
     };
     journal.truncate(SHORT);

@@ -4,6 +4,7 @@ use crate::journal::Record;
 use crate::operation::PROCEDURES;
 use crate::random::Random;
 use crate::replay::{take, Stop};
+use crate::rule::{Rule, RULES};
 use crate::session::{MOST_OPERATIONS, MOST_TILES};
 use crate::state::State;
 use crate::tile::Tile;
@@ -50,7 +51,7 @@ fn failed(record: Record) -> Record {
             ok: false,
             tile,
         },
-        _ => record,
+        Record::Open(_) | Record::Commit(_) | Record::Abort(_) | Record::JobAsOne => record,
     }
 }
 
@@ -64,17 +65,30 @@ fn accepted(state: &mut State, record: Record) -> Option<Record> {
     take(state, record).ok().map(|()| record)
 }
 
-/// Tries so many random calls and keeps the records of the accepted ones.
+/// What stands at the beginning of a journal by this rule.
+pub fn head_of(rule: Rule) -> Option<Record> {
+    match rule {
+        Rule::EachAlone => None,
+        Rule::JobAsOne => Some(Record::JobAsOne),
+    }
+}
+
+/// Tries so many random calls by either rule and keeps the records of the accepted ones.
 pub fn walk(random: &mut Random, tries: usize) -> Vec<Record> {
-    let started = State::started(&[0; MOST_TILES], 0, MOST_OPERATIONS);
+    let rule = random.pick(&RULES);
+    walk_by(rule, random, tries)
+}
+
+pub fn walk_by(rule: Rule, random: &mut Random, tries: usize) -> Vec<Record> {
+    let started = State::started(rule, &[0; MOST_TILES], 0, MOST_OPERATIONS);
     let mut state = match started {
         None => return Vec::new(),
         Some(state) => state,
     };
-    (0..tries)
+    let records = (0..tries)
         .filter_map(|_| some_record(random))
-        .filter_map(|record| accepted(&mut state, record))
-        .collect()
+        .filter_map(|record| accepted(&mut state, record));
+    head_of(rule).into_iter().chain(records).collect()
 }
 
 pub fn short_walk(random: &mut Random) -> Vec<Record> {

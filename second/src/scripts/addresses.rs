@@ -101,9 +101,7 @@ impl Pool {
     /// The tiles the pool names, in order.
     pub fn tiles(&self) -> Vec<Tile> {
         let named = self.addresses.iter();
-        let mut tiles: Vec<Tile> = named
-            .filter_map(|address| Tile::at(address.zoom, address.column, address.row))
-            .collect();
+        let mut tiles: Vec<Tile> = named.filter_map(|address| address.tile()).collect();
         tiles.sort();
         tiles.dedup();
         tiles

@@ -15,9 +15,9 @@ use Type::{Count, Entry, Signed, Small};
 
 type Form = (&'static str, &'static [Type]);
 
-const FORMS: [Form; 19] = [
+const FORMS: [Form; 20] = [
     ("lend", &[Count, Count, Count]),
-    ("start", &[Count]),
+    ("start", &[Count, Small]),
     ("open", &[Small]),
     ("ins", &[Small, Small, Signed, Signed]),
     ("del", &[Small, Small, Signed, Signed]),
@@ -35,11 +35,14 @@ const FORMS: [Form; 19] = [
     ("operations", &[Count]),
     ("journal", &[Count]),
     ("mark", &[Small, Small]),
+    ("rule", &[Small]),
 ];
 
 const UNKNOWN_WORDS: [&str; 12] = [
     "Open", "OPEN", "opens", "ope", "insert", "help", "quit", "summ", "su", "tile1", "-", "?",
 ];
+
+const NO_RULES: [u8; 4] = [0, 3, 4, 255];
 
 const ODD_NUMBERS: [&str; 22] = [
     "",
@@ -182,7 +185,7 @@ fn odd_bytes(random: &mut Random) -> Vec<u8> {
     line
 }
 
-/// The first place that is not lent, or a job, bit or length that the command does not take.
+/// The first place that is not lent, or a job, bit, rule or length that the command does not take.
 fn place_not_lent(writer: &mut Writer) -> String {
     let tables = &writer.console.tables;
     let (tiles, operations, journal) = (
@@ -190,7 +193,7 @@ fn place_not_lent(writer: &mut Writer) -> String {
         tables.operations.len(),
         tables.journal.len(),
     );
-    match writer.random.below(12) {
+    match writer.random.below(14) {
         0 => format!("tile {} 0", tiles),
         1 => format!("entry {} 0", operations),
         2 => format!("byte {} 0", journal),
@@ -202,6 +205,8 @@ fn place_not_lent(writer: &mut Writer) -> String {
         8 => format!("replay 0 {}", journal + 1),
         9 => "lend 5001 1 1".to_string(),
         10 => "lend 1 1201 1".to_string(),
+        11 => format!("start 0 {}", writer.random.pick(&NO_RULES)),
+        12 => format!("rule {}", writer.random.pick(&NO_RULES)),
         _ => "lend 1 1 66001".to_string(),
     }
 }

@@ -1,6 +1,7 @@
 //! Random calls of all kinds, chosen to be accepted often.
 
 use crate::random::Random;
+use crate::rule::RULES;
 use crate::scripts::addresses::{anywhere, refused, Pool};
 use crate::scripts::writer::Writer;
 
@@ -53,7 +54,10 @@ fn any_call(writer: &mut Writer, pool: &Pool) -> String {
         5 => format!("{} {}", random.pick(&["commit", "abort"]), job),
         6 => address_step(random, pool),
         7 => read_somewhere(writer),
-        8 if random.one_in(6) => format!("start {}", writer.console.session.tiles),
+        8 if random.one_in(6) => {
+            let tiles = writer.console.session.tiles;
+            format!("start {} {}", tiles, random.pick(&RULES).number())
+        }
         _ => operation(random, pool, job),
     }
 }

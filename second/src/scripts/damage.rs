@@ -1,12 +1,13 @@
-//! Damage to sound tables: one rule of soundness at a time, and its repair.
+//! Damage to sound tables: one requirement of soundness at a time, and its repair.
 
+use crate::rule::RULES;
 use crate::scripts::addresses::Pool;
 use crate::scripts::calls;
 use crate::scripts::writer::Writer;
 use crate::scripts::wrong_entries;
 use crate::scripts::wrong_tiles;
 use crate::session::length_of;
-use crate::soundness::{Rule, RULES};
+use crate::soundness::{requirements_of, Requirement};
 
 /// Lines that break a rule, and lines that mend it again.
 #[derive(Default)]
@@ -27,17 +28,22 @@ impl Damage {
     }
 }
 
-/// Breaks a rule, makes some calls, mends it, and makes some more.
-pub fn break_a_rule(writer: &mut Writer, pool: &Pool) {
-    let rule = writer.random.pick(&RULES);
-    let damage = match damage_to(writer, rule, pool) {
-        None => return,
-        Some(damage) => damage,
+/// Breaks a requirement, makes some calls, mends it, and makes some more.
+pub fn break_a_requirement(writer: &mut Writer, pool: &Pool) {
+    let asked: Vec<Requirement> = requirements_of(writer.console.session.rule).collect();
+    let requirement = writer.random.pick(&asked);
+    let damage = if writer.random.one_in(15) {
+        other_rule(writer)
+    } else {
+        match damage_to(writer, requirement) {
+            None => return,
+            Some(damage) => damage,
+        }
     };
     for line in &damage.breaking {
         writer.tell(line);
     }
-    if rule == Rule::JournalCount {
+    if requirement == Requirement::JournalCount {
         calls::read_here_and_there(writer, 4);
     }
     let refused_calls = writer.random.between(1, 4);
@@ -48,33 +54,42 @@ pub fn break_a_rule(writer: &mut Writer, pool: &Pool) {
     calls::run(writer, pool, 2);
 }
 
+/// Tables that are sound by one rule may not be so by the other.
+fn other_rule(writer: &mut Writer) -> Damage {
+    let rule = writer.console.session.rule.number();
+    let wrong = writer.random.pick(&RULES).number();
+    Damage::one(format!("rule {}", wrong), format!("rule {}", rule))
+}
+
 /// None where the tables as they stand give no occasion, and for lengths, which are lent so.
-fn damage_to(writer: &mut Writer, rule: Rule, pool: &Pool) -> Option<Damage> {
-    match rule {
-        Rule::TileLength | Rule::OperationLength | Rule::JournalLength => None,
-        Rule::TileCount => Some(pass_length(writer, "tiles")),
-        Rule::OperationCount => Some(pass_length(writer, "operations")),
-        Rule::JournalCount => Some(pass_length(writer, "journal")),
-        Rule::TileKey => wrong_tiles::wrong_key(writer),
-        Rule::TileOrder => wrong_tiles::wrong_order(writer),
-        Rule::TileRest => {
+fn damage_to(writer: &mut Writer, requirement: Requirement) -> Option<Damage> {
+    match requirement {
+        Requirement::TileLength | Requirement::OperationLength | Requirement::JournalLength => None,
+        Requirement::TileCount => Some(pass_length(writer, "tiles")),
+        Requirement::OperationCount => Some(pass_length(writer, "operations")),
+        Requirement::JournalCount => Some(pass_length(writer, "journal")),
+        Requirement::TileKey => wrong_tiles::wrong_key(writer),
+        Requirement::TileOrder => wrong_tiles::wrong_order(writer),
+        Requirement::TileRest => {
             let used = length_of(writer.console.session.tiles);
             let length = writer.console.tables.tiles.len();
             wrong_rest(writer, "tile", used, length)
         }
-        Rule::EntryRest => {
+        Requirement::EntryRest => {
             let used = length_of(writer.console.session.operations);
             let length = writer.console.tables.operations.len();
             wrong_rest(writer, "entry", used, length)
         }
-        Rule::EntryKind | Rule::EntryJob | Rule::EntryKey => {
-            wrong_entries::wrong_part(writer, rule)
-        }
-        Rule::AddedIsPresent => wrong_entries::other_kind(writer, 1),
-        Rule::RemovedIsAbsent => wrong_entries::other_kind(writer, 3),
-        Rule::NothingLater => wrong_entries::later_entry(writer),
-        Rule::TileRoom => wrong_entries::one_removed_too_many(writer, pool),
-        Rule::JournalRoom => too_little_journal(writer),
+        Requirement::EntryKind => wrong_entries::wrong_kind(writer),
+        Requirement::EntryJob => wrong_entries::wrong_job(writer),
+        Requirement::EntryKey => wrong_entries::wrong_key(writer),
+        Requirement::AddedIsPresent => wrong_entries::untrue_change(writer, 1),
+        Requirement::RemovedIsAbsent => wrong_entries::untrue_change(writer, 3),
+        Requirement::NothingLater => wrong_entries::later_entry(writer),
+        Requirement::ChangesAlternate => wrong_entries::repeated_change(writer),
+        Requirement::OneJobOnward => wrong_entries::other_job(writer),
+        Requirement::TileRoom => wrong_entries::one_removed_too_many(writer),
+        Requirement::JournalRoom => too_little_journal(writer),
     }
 }
 

@@ -1,21 +1,24 @@
 //! Episodes: each lends its own tables and has its own matter.
 
+use crate::rule::RULES;
 use crate::scripts::addresses::Pool;
 use crate::scripts::bad_lines;
 use crate::scripts::calls;
 use crate::scripts::damage;
 use crate::scripts::filling;
 use crate::scripts::nowhere;
+use crate::scripts::replacing;
 use crate::scripts::replays;
 use crate::scripts::wild;
 use crate::scripts::writer::Writer;
+use crate::session::length_of;
 
 pub fn episode(writer: &mut Writer) {
-    match writer.random.below(600) {
+    match writer.random.below(603) {
         0..=129 => side_by_side(writer),
         130..=194 => small_journal(writer),
         195..=289 => from_nowhere(writer),
-        290..=394 => broken_rules(writer),
+        290..=394 => broken_tables(writer),
         395..=434 => wild_damage(writer),
         435..=479 => replays::episode(writer),
         480..=514 => replays::foreign_journal(writer),
@@ -25,7 +28,8 @@ pub fn episode(writer: &mut Writer) {
         582..=592 => filling::fill_middle_tables(writer),
         593..=595 => filling::fill_journal_from_outside(writer),
         596..=597 => filling::fill_operations_from_outside(writer),
-        _ => filling::fill_tiles_from_outside(writer),
+        598..=599 => filling::fill_tiles_from_outside(writer),
+        _ => replacing::episode(writer),
     }
 }
 
@@ -36,7 +40,7 @@ fn start_small(writer: &mut Writer, pool: &Pool, journal: usize) {
     writer.lend(tiles, operations, journal);
     let starting = pool.some_tiles(&mut writer.random);
     let count = writer.put_tiles(starting);
-    writer.tell(format!("start {}", count));
+    writer.start(count);
 }
 
 /// Jobs side by side on few tiles.
@@ -58,8 +62,8 @@ fn small_journal(writer: &mut Writer) {
     start_small(writer, &pool, journal);
     calls::run(writer, &pool, 20);
     // A new start leaves the older bytes behind the used ones.
-    let tiles = writer.console.session.tiles;
-    writer.tell(format!("start {}", tiles));
+    let tiles = length_of(writer.console.session.tiles);
+    writer.start(tiles);
     calls::run(writer, &pool, 5);
     calls::read_everywhere(writer);
 }
@@ -90,8 +94,8 @@ fn from_nowhere(writer: &mut Writer) {
     }
 }
 
-/// Sound tables, with one rule after the other broken and mended.
-fn broken_rules(writer: &mut Writer) {
+/// Sound tables, with one requirement after the other broken and mended.
+fn broken_tables(writer: &mut Writer) {
     let pool = Pool::few(&mut writer.random);
     match writer.random.below(6) {
         0 => start_small(writer, &pool, 200),
@@ -102,7 +106,7 @@ fn broken_rules(writer: &mut Writer) {
         _ => nowhere::put_sound_session(writer, &pool),
     }
     for _ in 0..writer.random.between(3, 12) {
-        damage::break_a_rule(writer, &pool);
+        damage::break_a_requirement(writer, &pool);
     }
     starts(writer);
 }
@@ -119,11 +123,11 @@ fn starts(writer: &mut Writer) {
     ];
     for _ in 0..2 {
         let count = writer.random.pick(&wrong);
-        writer.tell(format!("start {}", count));
+        writer.start(count);
         writer.look();
     }
     calls::some_calls(writer, 2);
-    writer.tell(format!("start {}", used));
+    writer.start(used);
     calls::some_calls(writer, 3);
 }
 
@@ -152,6 +156,8 @@ fn limits(writer: &mut Writer) {
         _ => journal = random.pick(&[0, 1, 3, 4, 7, 8, 9, 11, 12]),
     }
     writer.lend(tiles, operations, journal);
+    let rule = writer.random.pick(&RULES).number();
+    writer.tell(format!("rule {}", rule));
     pass_the_journal(writer);
     let pool = Pool::few(&mut writer.random);
     let mut starting = pool.some_tiles(&mut writer.random);
@@ -159,9 +165,13 @@ fn limits(writer: &mut Writer) {
         starting.clear();
     }
     let count = writer.put_tiles(starting);
+    if writer.random.one_in(3) {
+        // Refused by 1, however short the journal is.
+        writer.start(count + 1);
+    }
     // Without a start, too: what a lend leaves is a session as good as a started one.
-    if !writer.random.one_in(3) {
-        writer.tell(format!("start {}", count));
+    if writer.random.one_in(2) {
+        writer.start(count);
     }
     calls::run(writer, &pool, 8);
     writer.tell("sum");
@@ -181,7 +191,7 @@ fn pass_the_journal(writer: &mut Writer) {
 
 fn only_bad_lines(writer: &mut Writer) {
     writer.lend(2, 2, 60);
-    writer.tell("start 0");
+    writer.start(0);
     writer.tell("open 1");
     for _ in 0..writer.random.between(10, 40) {
         let line = bad_lines::bad_line(writer);

@@ -48,7 +48,7 @@ fn run_through(writer: &mut Writer, word: &str, job: usize, first: usize) {
 /// places, then the journal.
 pub fn fill_largest_tables(writer: &mut Writer) {
     writer.lend(MOST_TILES, MOST_OPERATIONS, MOST_JOURNAL);
-    writer.tell("start 0");
+    writer.start(0);
     writer.tell("open 1");
     writer.tell("open 63");
     run_through(writer, "ins", 1, 0);
@@ -71,7 +71,7 @@ pub fn fill_middle_tables(writer: &mut Writer) {
     let operations = writer.random.between(5, 40);
     let journal = writer.random.between(30, 1500);
     writer.lend(tiles, operations, journal);
-    writer.tell("start 0");
+    writer.start(0);
     writer.tell("open 0");
     writer.tell("open 2");
     run_through(writer, "ins", 0, 3);
@@ -87,7 +87,7 @@ pub fn fill_tiles_from_outside(writer: &mut Writer) {
     writer.lend(MOST_TILES, 20, 2000);
     let tiles = (0..MOST_TILES - spare).filter_map(nth_tile).collect();
     let count = writer.put_tiles(tiles);
-    writer.tell(format!("start {}", count));
+    writer.start(count);
     writer.tell("open 7");
     run_through(writer, "del", 7, 10);
     writer.tell("open 8");
@@ -126,7 +126,7 @@ pub fn fill_operations_from_outside(writer: &mut Writer) {
 /// The largest journal, with its count set to just before its end.
 pub fn fill_journal_from_outside(writer: &mut Writer) {
     writer.lend(4, 9, MOST_JOURNAL);
-    writer.tell("start 0");
+    writer.start(0);
     let left = writer.random.below(90);
     writer.tell(format!("journal {}", MOST_JOURNAL - left));
     let pool = Pool::few(&mut writer.random);

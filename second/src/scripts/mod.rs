@@ -7,6 +7,7 @@ mod damage;
 mod episodes;
 mod filling;
 mod nowhere;
+mod replacing;
 mod replays;
 mod wild;
 mod writer;

@@ -2,8 +2,11 @@
 
 use crate::operation::{Admitted, Kind, KINDS};
 use crate::random::Random;
+use crate::rule::{Rule, RULES};
 use crate::scripts::addresses::Pool;
 use crate::scripts::writer::Writer;
+use crate::session::{MOST_OPERATIONS, MOST_TILES};
+use crate::state::State;
 use crate::tile::Tile;
 
 const JOBS: [u8; 7] = [0, 1, 2, 3, 31, 62, 63];
@@ -21,69 +24,89 @@ fn number_of(entry: &Admitted) -> u64 {
     )
 }
 
-/// Whether the entry may stand behind the others: their tiles may be bound, and so may its own.
-fn may_follow(entry: &Admitted, before: &[Admitted], present: &[Tile]) -> bool {
-    let bound = before
-        .iter()
-        .any(|other| other.tile == entry.tile && matches!(other.kind, Kind::Added | Kind::Removed));
-    let fits = match entry.kind {
-        Kind::Added => present.contains(&entry.tile),
-        Kind::Removed => !present.contains(&entry.tile),
-        _ => true,
-    };
-    !bound && fits
+fn last_change(entries: &[Admitted], tile: Tile) -> Option<Admitted> {
+    let changes = |entry: &&Admitted| entry.tile == tile && entry.kind.changes_tiles();
+    entries.iter().rev().find(changes).copied()
 }
 
-fn some_entries(
-    random: &mut Random,
-    jobs: &[u8],
-    pool: &[Tile],
-    present: &[Tile],
-) -> Vec<Admitted> {
+/// Whether the entry may stand behind the last change of its tile.
+fn may_follow(rule: Rule, entry: &Admitted, change: &Admitted) -> bool {
+    match rule {
+        Rule::EachAlone => false,
+        Rule::JobAsOne => entry.job == change.job && entry.kind != change.kind,
+    }
+}
+
+fn some_entries(random: &mut Random, rule: Rule, jobs: &[u8], tiles: &[Tile]) -> Vec<Admitted> {
     let mut entries: Vec<Admitted> = Vec::new();
-    for _ in 0..random.below(10) {
-        let entry = Admitted {
-            kind: random.pick(&KINDS),
-            job: random.pick(jobs),
-            tile: random.pick(pool),
+    for _ in 0..random.below(12) {
+        let tile = random.pick(tiles);
+        let change = last_change(&entries, tile);
+        let job = match change {
+            Some(change) if !random.one_in(6) => change.job,
+            _ => random.pick(jobs),
         };
-        if may_follow(&entry, &entries, present) {
+        let kind = random.pick(&KINDS);
+        let entry = Admitted { kind, job, tile };
+        if change.map_or(true, |change| may_follow(rule, &entry, &change)) {
             entries.push(entry);
         }
     }
     entries
 }
 
-/// Lends tables and puts a sound session into them, often with no place to spare.
-pub fn put_sound_session(writer: &mut Writer, pool: &Pool) {
-    let random = &mut writer.random;
+/// Of the changed tiles those that the last change left there, and some of the others.
+fn fitting_tiles(random: &mut Random, entries: &[Admitted], pool: &Pool) -> Vec<Tile> {
+    let mut tiles = pool.tiles();
+    tiles.retain(|tile| match last_change(entries, *tile) {
+        Some(change) => change.kind == Kind::Added,
+        None => random.one_in(2),
+    });
+    tiles
+}
+
+fn some_state(random: &mut Random, pool: &Pool) -> State {
+    let rule = random.pick(&RULES);
     let mut jobs: Vec<u8> = JOBS.to_vec();
     jobs.retain(|_| random.one_in(2));
     jobs.push(5);
-    let present = pool.some_tiles(random);
-    let entries = some_entries(random, &jobs, &pool.tiles(), &present);
-    let removed = entries.iter().filter(|entry| entry.kind == Kind::Removed);
-    let spoken_for = present.len() + removed.count();
+    let admitted = some_entries(random, rule, &jobs, &pool.tiles());
+    State {
+        rule,
+        tiles: fitting_tiles(random, &admitted, pool).into_iter().collect(),
+        tile_places: MOST_TILES,
+        admitted,
+        operation_places: MOST_OPERATIONS,
+        open: jobs.into_iter().collect(),
+    }
+}
+
+/// Lends tables and puts a sound session into them, often with no place to spare.
+pub fn put_sound_session(writer: &mut Writer, pool: &Pool) {
+    let random = &mut writer.random;
+    let state = some_state(random, pool);
     let spare = random.pick(&[0, 0, 1, 1, 2, 5]);
-    let places = (spoken_for + spare).max(1);
-    let operations = (entries.len() + random.pick(&[0, 0, 1, 2, 6])).max(1);
+    let places = (state.places_spoken_for() + spare).max(1);
+    let operations = (state.admitted.len() + random.pick(&[0, 0, 1, 2, 6])).max(1);
     let used = random.below(40);
-    let journal = used + 4 * jobs.len() + random.pick(&[0, 3, 4, 7, 8, 9, 10, 11, 40, 100]);
+    let endings = 4 * state.open.len();
+    let journal = used + endings + random.pick(&[0, 3, 4, 7, 8, 9, 10, 11, 40, 100]);
     writer.lend(places, operations, journal);
-    put_parts(writer, &jobs, present, &entries);
+    put_parts(writer, &state);
     put_journal(writer, used);
 }
 
-fn put_parts(writer: &mut Writer, jobs: &[u8], present: Vec<Tile>, entries: &[Admitted]) {
-    let count = writer.put_tiles(present);
+fn put_parts(writer: &mut Writer, state: &State) {
+    let count = writer.put_tiles(state.tiles.iter().copied().collect());
     writer.tell(format!("tiles {}", count));
-    for job in jobs {
+    writer.tell(format!("rule {}", state.rule.number()));
+    for job in &state.open {
         writer.tell(format!("mark {} 1", job));
     }
-    for (place, entry) in entries.iter().enumerate() {
+    for (place, entry) in state.admitted.iter().enumerate() {
         writer.tell(format!("entry {} {}", place, number_of(entry)));
     }
-    writer.tell(format!("operations {}", entries.len()));
+    writer.tell(format!("operations {}", state.admitted.len()));
 }
 
 /// The journal of such a session may hold anything.

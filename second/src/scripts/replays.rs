@@ -83,7 +83,7 @@ fn record_places(writer: &Writer) -> (Vec<usize>, usize) {
         let place = reader.place();
         match reader.read() {
             Reading::Whole(_) => places.push(place),
-            _ => return (places, place),
+            Reading::End | Reading::Cut | Reading::Malformed => return (places, place),
         }
     }
 }
@@ -168,7 +168,7 @@ pub fn episode(writer: &mut Writer) {
     let tiles = writer.random.between(1, 5);
     let operations = writer.random.between(1, 9);
     writer.lend(tiles, operations, 500);
-    writer.tell("start 0");
+    writer.start(0);
     let calls = writer.random.between(10, 40);
     calls::run(writer, &pool, calls);
     if writer.random.one_in(3) {

@@ -1,5 +1,6 @@
 //! Wild damage: numbers put anywhere, plausible or not, and nothing is mended.
 
+use crate::rule::RULES;
 use crate::scripts::addresses::Pool;
 use crate::scripts::nowhere::entry_number;
 use crate::scripts::writer::Writer;
@@ -7,11 +8,12 @@ use crate::scripts::wrong_tiles::no_key;
 
 pub fn put_numbers_anywhere(writer: &mut Writer, pool: &Pool) {
     for _ in 0..writer.random.between(1, 4) {
-        let line = match writer.random.below(10) {
+        let line = match writer.random.below(11) {
             0..=2 => wild_count_line(writer),
             3..=4 => wild_tile_line(writer, pool),
             5..=6 => wild_entry_line(writer, pool),
             7 => wild_byte_line(writer),
+            8 => format!("rule {}", writer.random.pick(&RULES).number()),
             _ => wild_mark_line(writer),
         };
         writer.tell(line);

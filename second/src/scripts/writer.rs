@@ -2,6 +2,7 @@
 
 use crate::console::Console;
 use crate::random::Random;
+use crate::rule::{Rule, RULES};
 use crate::scripts::bad_lines;
 use crate::tile::Tile;
 
@@ -66,6 +67,16 @@ impl Writer {
 
     pub fn lend(&mut self, tiles: usize, operations: usize, journal: usize) {
         self.tell(format!("lend {} {} {}", tiles, operations, journal));
+    }
+
+    /// A start by either rule.
+    pub fn start(&mut self, count: usize) {
+        let rule = self.random.pick(&RULES);
+        self.start_by(rule, count);
+    }
+
+    pub fn start_by(&mut self, rule: Rule, count: usize) {
+        self.tell(format!("start {} {}", count, rule.number()));
     }
 
     /// Puts the tiles into the first places, in ascending order, as far as there are places.

@@ -2,10 +2,17 @@
 
 #![allow(dead_code)]
 
+pub mod cuts;
+pub mod expected;
+pub mod history;
+pub mod tables;
+
 use second::operation::Procedure;
 use second::reply::numbers;
+use second::rule::Rule;
 use second::service::{self, Address};
 use second::session::{Session, Tables};
+use second::state::State;
 use second::tile::Tile;
 use std::collections::BTreeSet;
 
@@ -20,6 +27,17 @@ pub const B: Address = Address {
     row: 0,
 };
 
+/// The scope paper's table. Rows are the kinds 1 to 6; columns are ins =, ins other, del =, del
+/// other, skip.
+pub const TABLE: [[bool; 5]; 6] = [
+    [false, true, false, true, true],
+    [true, true, false, true, true],
+    [false, true, false, true, true],
+    [false, true, true, true, true],
+    [true, true, false, true, true],
+    [false, true, true, true, true],
+];
+
 pub const DONE: (u8, u8, u8) = (0, 0, 0);
 pub const OK: (u8, u8, u8) = (0, 1, 0);
 pub const FAIL: (u8, u8, u8) = (0, 0, 0);
@@ -33,7 +51,7 @@ pub fn held(holder: u8) -> (u8, u8, u8) {
 }
 
 pub fn tile(address: Address) -> Tile {
-    Tile::at(address.zoom, address.column, address.row).expect("a served address")
+    address.tile().expect("a served address")
 }
 
 #[derive(Clone, Debug, PartialEq, Eq)]
@@ -43,25 +61,33 @@ pub struct Bench {
 }
 
 impl Bench {
-    /// Tables of these lengths, started on the tiles at these addresses.
+    /// Tables of these lengths, started by rule 1 on the tiles at these addresses.
     pub fn started(lengths: (usize, usize, usize), present: &[Address]) -> Bench {
+        Bench::started_by(Rule::EachAlone, lengths, present)
+    }
+
+    pub fn started_by(rule: Rule, lengths: (usize, usize, usize), present: &[Address]) -> Bench {
         let mut tables = Tables::lent(lengths.0, lengths.1, lengths.2);
         let tiles: BTreeSet<Tile> = present.iter().map(|address| tile(*address)).collect();
         for (place, tile) in tables.tiles.iter_mut().zip(&tiles) {
             *place = tile.key();
         }
-        let (session, reply) = service::start(&mut tables, tiles.len() as u32);
+        let (session, reply) = service::start(&mut tables, tiles.len() as u32, rule);
         assert_eq!(numbers(reply), DONE);
         Bench { session, tables }
     }
 
-    /// Ample room and jobs 1 and 2 open.
+    /// Ample room and jobs 1 and 2 open, by rule 1.
     pub fn ample(present: &[Address]) -> Bench {
         Bench::with_places(100, present)
     }
 
     pub fn with_places(places: usize, present: &[Address]) -> Bench {
-        let mut bench = Bench::started((places, 100, 1000), present);
+        Bench::with_places_by(Rule::EachAlone, places, present)
+    }
+
+    pub fn with_places_by(rule: Rule, places: usize, present: &[Address]) -> Bench {
+        let mut bench = Bench::started_by(rule, (places, 100, 1000), present);
         assert_eq!(bench.open(1), DONE);
         assert_eq!(bench.open(2), DONE);
         bench
@@ -96,9 +122,22 @@ impl Bench {
         numbers(service::abort(&mut self.session, &mut self.tables, job))
     }
 
+    pub fn is_sound(&self) -> bool {
+        State::decode(&self.session, &self.tables).is_some()
+    }
+
+    /// The used places of the tile table.
+    pub fn keys(&self) -> &[u32] {
+        &self.tables.tiles[..self.session.tiles as usize]
+    }
+
+    /// The used places of the operations table.
+    pub fn entries(&self) -> &[u64] {
+        &self.tables.operations[..self.session.operations as usize]
+    }
+
     pub fn has(&self, address: Address) -> bool {
-        let used = self.session.tiles as usize;
-        self.tables.tiles[..used].contains(&tile(address).key())
+        self.keys().contains(&tile(address).key())
     }
 
     pub fn journal(&self) -> &[u8] {

@@ -1,0 +1,81 @@
+//! Large tables by rule 2 in which one job deleted many tiles and inserted them again, with damage
+//! deep inside them.
+
+use crate::random::Random;
+use crate::scripts::addresses::nth_tile;
+use crate::scripts::nowhere::entry_number;
+use crate::scripts::writer::Writer;
+use crate::session::MOST_OPERATIONS;
+
+/// The job whose entries these are, and another one that is open.
+const OWNER: u64 = 6;
+const OTHER: u64 = 7;
+
+const REMOVED: u64 = 3;
+const ADDED: u64 = 1;
+
+fn nth_entry(kind: u64, job: u64, n: usize) -> u64 {
+    let key = nth_tile(n).map_or(0, |tile| tile.key());
+    entry_number(kind, job, u64::from(key))
+}
+
+/// Tile after tile deleted and inserted, or first all deleted and then all inserted.
+fn entries_of(random: &mut Random, tiles: usize) -> Vec<u64> {
+    let removed = (0..tiles).map(|n| nth_entry(REMOVED, OWNER, n));
+    let added = (0..tiles).map(|n| nth_entry(ADDED, OWNER, n));
+    if random.one_in(2) {
+        return removed.chain(added).collect();
+    }
+    removed
+        .zip(added)
+        .flat_map(|(removed, added)| [removed, added])
+        .collect()
+}
+
+/// The same entry with another kind, job or tile.
+fn altered(random: &mut Random, entry: u64, tiles: usize) -> u64 {
+    let (kind, key) = (entry >> 40, entry & 0xFFFF_FFFF);
+    match random.below(5) {
+        0 => entry_number(4 - kind, OWNER, key),
+        1 => entry_number(random.pick(&[2, 4, 5, 6]), OWNER, key),
+        2 => entry_number(kind, OTHER, key),
+        3 => nth_entry(kind, OWNER, random.below(tiles)),
+        // A tile that no entry has: by rule 2 it may stand there alone, if it fits.
+        _ => nth_entry(kind, OWNER, tiles + random.below(3)),
+    }
+}
+
+fn damage_and_mend(writer: &mut Writer, entries: &[u64], tiles: usize) {
+    let place = writer.random.below(entries.len());
+    let wrong = altered(&mut writer.random, entries[place], tiles);
+    writer.tell(format!("entry {} {}", place, wrong));
+    // Refused by 1 where the damage matters, and else by 4: nothing else changes the tables.
+    writer.tell(format!("open {}", OTHER));
+    writer.tell(format!("entry {} {}", place, entries[place]));
+}
+
+pub fn episode(writer: &mut Writer) {
+    let most = MOST_OPERATIONS / 2;
+    let tiles = writer.random.pick(&[30, 64, 100, most - 1, most]);
+    let spare = writer.random.below(2);
+    writer.lend(tiles + spare, MOST_OPERATIONS, 300);
+    writer.put_tiles((0..tiles).filter_map(nth_tile).collect());
+    let entries = entries_of(&mut writer.random, tiles);
+    for (place, entry) in entries.iter().enumerate() {
+        writer.tell(format!("entry {} {}", place, entry));
+    }
+    for line in ["rule 2", "mark 6 1", "mark 7 1"] {
+        writer.tell(line);
+    }
+    writer.tell(format!("tiles {}", tiles));
+    writer.tell(format!("operations {}", entries.len()));
+    for _ in 0..writer.random.between(10, 30) {
+        damage_and_mend(writer, &entries, tiles);
+    }
+    writer.tell("sum");
+    writer.tell("ins 7 7 0 0");
+    writer.tell("del 6 7 0 0");
+    writer.tell("ins 6 7 0 0");
+    writer.tell("abort 6");
+    writer.tell("sum");
+}

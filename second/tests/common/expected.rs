@@ -1,0 +1,82 @@
+//! The reply to an operation by the definitions alone, and what they leave open.
+
+use super::history::{Done, Trial};
+use super::{held, refused};
+use second::operation::{Procedure, Recovery};
+use second::rule::Rule;
+use second::strictness::{commutes, most_tiles, strict, Step};
+use second::tile::Tile;
+use std::collections::BTreeSet;
+
+impl Trial {
+    /// The journal has room for everything here.
+    pub fn due_reply(&mut self, job: u8, new: Step) -> (u8, u8, u8) {
+        let mut with_new = self.steps();
+        with_new.push(new);
+        let holder = self.holder(job, new);
+        self.compare_with_strictness(holder, &with_new);
+        if let Some(holder) = holder {
+            return held(holder);
+        }
+        if self.lacks_room(new, &with_new) {
+            return refused(7);
+        }
+        if self.unfinished().count() == self.bench.tables.operations.len() {
+            return refused(8);
+        }
+        (0, u8::from(new.ok), 0)
+    }
+
+    /// The job of the first unfinished operation that stands in the way.
+    fn holder(&self, job: u8, new: Step) -> Option<u8> {
+        let holds = |done: &&Done| match self.rule {
+            Rule::EachAlone => !commutes(new, done.step.recovery),
+            Rule::JobAsOne => {
+                let on_tile = done.step.tile == new.tile;
+                done.job != job && on_tile && done.step.recovery != Recovery::Skip
+            }
+        };
+        self.unfinished().find(holds).map(|done| done.job)
+    }
+
+    /// By rule 1 held is exactly what strictness forbids; by rule 2 it may be more.
+    fn compare_with_strictness(&mut self, holder: Option<u8>, with_new: &[Step]) {
+        let stays_strict = strict(self.rule, &self.start, with_new);
+        assert!(stays_strict || holder.is_some());
+        if stays_strict && holder.is_some() {
+            assert_eq!(self.rule, Rule::JobAsOne);
+            self.tally.held_though_strict += 1;
+        }
+    }
+
+    /// By rule 1 room lacks exactly where some outcome needs more places; by rule 2 it may lack
+    /// elsewhere, too.
+    fn lacks_room(&mut self, new: Step, with_new: &[Step]) -> bool {
+        let places = self.bench.tables.tiles.len();
+        let fits = most_tiles(self.rule, &self.start, with_new) <= places;
+        match self.rule {
+            Rule::EachAlone => !fits,
+            Rule::JobAsOne => {
+                let lacks = self.lacks_room_by_rule_2(new, places);
+                assert!(fits || lacks);
+                self.tally.no_room_though_fitting += usize::from(fits && lacks);
+                lacks
+            }
+        }
+    }
+
+    /// "Tile room now counts, besides the tiles, each absent tile with an unfinished delete that
+    /// took effect, once; an insert of a tile so counted needs no further place, any other insert
+    /// of an absent tile gets 7 exactly when the count equals the places."
+    fn lacks_room_by_rule_2(&self, new: Step, places: usize) -> bool {
+        let tiles = self.tiles();
+        let counted: BTreeSet<Tile> = self
+            .unfinished()
+            .filter(|done| done.step.recovery == Recovery::Insert(done.step.tile))
+            .map(|done| done.step.tile)
+            .filter(|tile| !tiles.contains(tile))
+            .collect();
+        let inserts = new.procedure == Procedure::Insert && !tiles.contains(&new.tile);
+        inserts && !counted.contains(&new.tile) && tiles.len() + counted.len() == places
+    }
+}

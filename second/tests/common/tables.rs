@@ -1,0 +1,108 @@
+//! Random tables that are often sound and often almost sound, and random calls on them.
+
+use super::Bench;
+use second::operation::PROCEDURES;
+use second::random::Random;
+use second::rule::{Rule, RULES};
+use second::service::Address;
+use second::session::{Session, Tables};
+
+pub fn some_address(random: &mut Random) -> Address {
+    Address {
+        zoom: random.pick(&[4, 4, 4, 4, 4, 3, 14]),
+        column: random.pick(&[-1, 15, 0, 16, 7]),
+        row: random.pick(&[5, 5, 5, 0, 16]),
+    }
+}
+
+/// Tables that are often sound and often almost sound, by either rule.
+pub fn some_bench(random: &mut Random) -> Bench {
+    let rule = random.pick(&RULES);
+    let mut keys = vec![1_073_741_829, 1_073_856_517, 1_073_987_589];
+    let entries = some_entries(random, rule, &keys);
+    keys.retain(|_| random.one_in(2));
+    let places = keys.len() + random.pick(&[0, 0, 1, 2]);
+    let operations = entries.len() + random.pick(&[0, 1, 1, 3]);
+    let mut tables = Tables::lent(places, operations, random.below(60));
+    tables.tiles[..keys.len()].copy_from_slice(&keys);
+    tables.operations[..entries.len()].copy_from_slice(&entries);
+    let mut session = Session {
+        rule,
+        ..Session::empty()
+    };
+    for job in 0..3 {
+        session.open[job] = !random.one_in(4);
+    }
+    session.tiles = keys.len() as u32;
+    session.operations = entries.len() as u32;
+    session.journal = random.below(tables.journal.len() / 2) as u32;
+    Bench { session, tables }
+}
+
+pub fn some_count(random: &mut Random, length: usize) -> u32 {
+    let within = random.below(length + 1) as u32;
+    let wild = random.word();
+    match random.below(12) {
+        0 => length as u32 + 1,
+        1 => random.pick(&[u32::MAX, wild]),
+        _ => within,
+    }
+}
+
+/// By rule 2 a few more, of few jobs and mostly changing, so that tiles are changed again.
+fn some_entries(random: &mut Random, rule: Rule, keys: &[u32]) -> Vec<u64> {
+    let (most, kinds, jobs): (usize, &[u64], &[u64]) = match rule {
+        Rule::EachAlone => (3, &[1, 2, 3, 4, 5, 6, 2, 4, 5, 6], &[0, 1, 2]),
+        Rule::JobAsOne => (5, &[1, 2, 3, 4, 5, 6, 1, 3, 1, 3], &[0, 0, 0, 1]),
+    };
+    let count = random.below(most + 1);
+    (0..count)
+        .map(|_| {
+            let (kind, job, key) = (random.pick(kinds), random.pick(jobs), random.pick(keys));
+            (kind << 40) + (job << 32) + u64::from(key)
+        })
+        .collect()
+}
+
+/// One number anywhere becomes another one, now and then.
+pub fn damage(random: &mut Random, bench: &mut Bench) {
+    let wild = random.number();
+    let (tiles, operations) = (&mut bench.tables.tiles, &mut bench.tables.operations);
+    match random.below(18) {
+        0 => {
+            let place = random.below(tiles.len());
+            let small = random.pick(&[0, 1, 1_073_741_824, wild as u32]);
+            tiles
+                .iter_mut()
+                .skip(place)
+                .take(1)
+                .for_each(|key| *key = small);
+        }
+        1 => {
+            let place = random.below(operations.len());
+            let entry = random.pick(&[0, 7 << 40, 64 << 32, wild]);
+            operations
+                .iter_mut()
+                .skip(place)
+                .take(1)
+                .for_each(|old| *old = entry);
+        }
+        2 => bench.session.open[random.below(64)] ^= true,
+        3 => bench.session.tiles = some_count(random, tiles.len()),
+        4 => bench.session.operations = some_count(random, operations.len()),
+        5 => bench.session.journal = some_count(random, bench.tables.journal.len()),
+        6 => bench.session.rule = random.pick(&RULES),
+        _ => {}
+    }
+}
+
+pub fn any_call(random: &mut Random, bench: &mut Bench) -> (u8, u8, u8) {
+    let job = random.pick(&[0, 1, 2, 0, 1, 2, 63, 64, 255]);
+    let address = some_address(random);
+    match random.below(6) {
+        0 => bench.open(job),
+        1 => bench.commit(job),
+        2 => bench.abort(job),
+        _ => bench.operate(job, random.pick(&PROCEDURES), address),
+    }
+}
