@@ -1,11 +1,14 @@
 //! What an admitted operation and the end of a job do to the tables; the calls and the replay
 //! share it.
 
+use crate::chains;
 use crate::entry::{
-    commutes, entry, job, key, kind, kind_of, reserved_places, DELETED, INSERTED, NOT_SEEN,
+    changes_its_tile, commutes, deletes, entry, job, key, kind, kind_of, DELETED, INSERTED,
+    NOT_SEEN,
 };
 use crate::journal::Procedure;
 use crate::reply::Refusal;
+use crate::rule::Rule;
 use crate::session::Session;
 
 /// An operation that may be performed, and where its tile is or would be.
@@ -25,16 +28,21 @@ pub fn admit(
     session: &Session,
     tiles: &[u32],
     operations: &[u64],
+    own_job: u8,
     procedure: Procedure,
     key: u32,
 ) -> Result<Admitted, Refusal> {
     let entries = &operations[..session.operations];
     let search = tiles[..session.tiles].binary_search(&key);
     let kind = kind_of(procedure, search.is_ok());
-    if let Some(holder) = first_holder(entries, kind, key) {
-        return Err(Refusal::Held(holder));
+    let holder = match session.rule {
+        Rule::Alone => first_not_commuting(entries, kind, key),
+        Rule::Together => first_change_of_others(entries, own_job, key),
+    };
+    if let Some(holder) = holder {
+        return Err(Refusal::Held(job(holder)));
     }
-    if kind == INSERTED && session.tiles + reserved_places(entries) == tiles.len() {
+    if kind == INSERTED && lacks_place(session, tiles.len(), entries, key) {
         return Err(Refusal::NoTileRoom);
     }
     if entries.len() == operations.len() {
@@ -44,9 +52,30 @@ pub fn admit(
     Ok(Admitted { kind, key, place })
 }
 
-fn first_holder(entries: &[u64], new_kind: u64, new_key: u32) -> Option<u8> {
-    let holds = |&&e: &&u64| key(e) == new_key && !commutes(new_kind, kind(e));
-    entries.iter().find(holds).map(|&e| job(e))
+fn first_not_commuting(entries: &[u64], new_kind: u64, new_key: u32) -> Option<u64> {
+    let holds = |&e: &u64| key(e) == new_key && !commutes(new_kind, kind(e));
+    entries.iter().copied().find(holds)
+}
+
+fn first_change_of_others(entries: &[u64], own_job: u8, new_key: u32) -> Option<u64> {
+    let holds = |&e: &u64| key(e) == new_key && job(e) != own_job && changes_its_tile(e);
+    entries.iter().copied().find(holds)
+}
+
+/// Whether an absent tile that is to be inserted needs a place and all are spoken for. By the
+/// second rule a tile has one reserved if it was deleted, however often.
+fn lacks_place(session: &Session, places: usize, entries: &[u64], new_key: u32) -> bool {
+    // no more than these are reserved by either rule
+    let is_possible = session.tiles + deletes(entries) >= places;
+    let was_deleted = |&e: &u64| key(e) == new_key && kind(e) == DELETED;
+    is_possible
+        && match session.rule {
+            Rule::Alone => true,
+            Rule::Together => {
+                !entries.iter().any(was_deleted)
+                    && session.tiles + chains::reserved_places(entries) == places
+            }
+        }
 }
 
 pub fn perform(

@@ -40,8 +40,8 @@ pub fn changes_its_tile(entry: u64) -> bool {
     matches!(kind(entry), INSERTED | DELETED)
 }
 
-/// Entries of kind 3: the place of a deleted tile stays reserved, for the delete may be undone.
-pub fn reserved_places(entries: &[u64]) -> usize {
+/// Entries of kind 3: by the first rule each reserves a place, for the delete may be undone.
+pub fn deletes(entries: &[u64]) -> usize {
     entries.iter().filter(|&&e| kind(e) == DELETED).count()
 }
 

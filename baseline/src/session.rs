@@ -1,13 +1,16 @@
 //! The session record and the lent tables.
 
+use crate::rule::Rule;
+
 pub const JOBS: usize = 64;
 pub const MOST_TILES: usize = 4_096;
 pub const MOST_OPERATIONS: usize = 1_024;
 pub const MOST_JOURNAL: usize = 65_536;
 
-/// A mark for each open job, and how much of each table is used.
+/// The rule, a mark for each open job, and how much of each table is used.
 #[derive(Clone, Copy, Debug, PartialEq, Eq)]
 pub struct Session {
+    pub rule: Rule,
     pub marks: [bool; JOBS],
     pub tiles: usize,
     pub operations: usize,
@@ -16,8 +19,9 @@ pub struct Session {
 
 impl Session {
     /// No job open, and nothing used but so many tiles.
-    pub fn fresh(tiles: usize) -> Session {
+    pub fn fresh(rule: Rule, tiles: usize) -> Session {
         Session {
+            rule,
             marks: [false; JOBS],
             tiles,
             operations: 0,

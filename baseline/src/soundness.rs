@@ -1,16 +1,17 @@
-//! Whether lent tables are sound. The costly rule is that no later entry has the tile that an
-//! entry changed; it is decided in several ways.
+//! Whether lent tables are sound. What is costly is to hold each entry that changed its tile
+//! against those behind it: by the first rule none of them may have that tile, and `chains` has
+//! the second rule. It is decided in several ways.
 
-use crate::entry::{
-    changes_its_tile, job, key, kind, reserved_places, DELETED, INSERTED, NOT_SEEN,
-};
+use crate::chains;
+use crate::entry::{changes_its_tile, deletes, job, key, kind, INSERTED, NOT_SEEN};
 use crate::journal::JOB_RECORD;
+use crate::rule::Rule;
 use crate::session::{Session, Tables, JOBS, MOST_JOURNAL, MOST_OPERATIONS, MOST_TILES};
 use crate::tile::is_key;
 use crate::tuned;
 use std::collections::HashSet;
 
-/// How the rule about later entries is decided; `Tuned` is a check of its own, made for speed.
+/// How what is asked of later entries is decided; `Tuned` is a check of its own, made for speed.
 #[derive(Clone, Copy, Debug, PartialEq, Eq)]
 pub enum Check {
     Pairs,
@@ -23,13 +24,34 @@ impl Check {
     pub const ALL: [Check; 4] = [Check::Pairs, Check::Sets, Check::Filter, Check::Tuned];
 }
 
+/// One way to decide it, for each rule.
+struct Decided {
+    changed_last: fn(&[u64]) -> bool,
+    reserved_if_chained: fn(&[u32], &[u64]) -> Option<usize>,
+}
+
+const PAIRS: Decided = Decided {
+    changed_last: changed_last_by_pairs,
+    reserved_if_chained: chains::reserved_by_pairs,
+};
+
+const SETS: Decided = Decided {
+    changed_last: changed_last_by_set,
+    reserved_if_chained: chains::reserved_by_map,
+};
+
+const FILTER: Decided = Decided {
+    changed_last: changed_last_by_filter,
+    reserved_if_chained: chains::reserved_by_nearest,
+};
+
 pub fn is_sound(check: Check, session: &Session, tables: &Tables) -> bool {
     lengths_and_counts_fit(session, tables.tiles, tables.operations)
         && journal_has_room(session, tables.journal)
         && match check {
-            Check::Pairs => tables_hold(session, tables, changed_last_by_pairs),
-            Check::Sets => tables_hold(session, tables, changed_last_by_set),
-            Check::Filter => tables_hold(session, tables, changed_last_by_filter),
+            Check::Pairs => tables_hold(session, tables, PAIRS),
+            Check::Sets => tables_hold(session, tables, SETS),
+            Check::Filter => tables_hold(session, tables, FILTER),
             Check::Tuned => tuned::tables_hold(session, tables.tiles, tables.operations),
         }
 }
@@ -43,7 +65,7 @@ pub fn can_start(
     operations: &[u64],
     journal: &[u8],
 ) -> bool {
-    lengths_and_counts_fit(&Session::fresh(count), tiles, operations)
+    lengths_and_counts_fit(&Session::fresh(Rule::Alone, count), tiles, operations)
         && journal.len() <= MOST_JOURNAL
         && match check {
             Check::Tuned => tuned::tiles_hold(tiles, count),
@@ -64,14 +86,32 @@ fn journal_has_room(session: &Session, journal: &[u8]) -> bool {
         && JOB_RECORD * session.open_jobs() <= journal.len() - session.journal
 }
 
-fn tables_hold(session: &Session, tables: &Tables, changed_last: fn(&[u64]) -> bool) -> bool {
+fn tables_hold(session: &Session, tables: &Tables, decided: Decided) -> bool {
     let (entries, unused) = tables.operations.split_at(session.operations);
     tiles_hold(tables.tiles, session.tiles)
         && entries.iter().all(|&e| entry_fits(&session.marks, e))
         && unused.iter().all(|&e| e == 0)
-        && as_left(entries, &tables.tiles[..session.tiles])
-        && changed_last(entries)
-        && session.tiles + reserved_places(entries) <= tables.tiles.len()
+        && reserved_if_settled(session, tables.tiles, entries, decided).map_or(false, |reserved| {
+            session.tiles + reserved <= tables.tiles.len()
+        })
+}
+
+/// How many places the entries reserve; none if they do not fit the tiles or each other.
+fn reserved_if_settled(
+    session: &Session,
+    tiles: &[u32],
+    entries: &[u64],
+    decided: Decided,
+) -> Option<usize> {
+    let tiles = &tiles[..session.tiles];
+    match session.rule {
+        Rule::Alone => {
+            let are_as_left = entries.iter().all(|&e| is_as_left(tiles, e));
+            let is_settled = are_as_left && (decided.changed_last)(entries);
+            Some(deletes(entries)).filter(|_| is_settled)
+        }
+        Rule::Together => (decided.reserved_if_chained)(tiles, entries),
+    }
 }
 
 fn tiles_hold(tiles: &[u32], count: usize) -> bool {
@@ -87,12 +127,10 @@ fn entry_fits(marks: &[bool; JOBS], entry: u64) -> bool {
         && is_key(key(entry))
 }
 
-fn as_left(entries: &[u64], tiles: &[u32]) -> bool {
-    entries.iter().all(|&e| match kind(e) {
-        INSERTED => tiles.binary_search(&key(e)).is_ok(),
-        DELETED => tiles.binary_search(&key(e)).is_err(),
-        _ => true,
-    })
+/// Whether the entry's tile is as it left it, if it changed it.
+pub fn is_as_left(tiles: &[u32], entry: u64) -> bool {
+    !changes_its_tile(entry)
+        || tiles.binary_search(&key(entry)).is_ok() == (kind(entry) == INSERTED)
 }
 
 fn changed_last_by_pairs(entries: &[u64]) -> bool {

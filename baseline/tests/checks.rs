@@ -1,25 +1,19 @@
-//! All four checks say the same, and what the paper says, on sound and on damaged tables.
+//! All four checks say the same, and what the paper says, on sound and on damaged tables by both
+//! rules.
 
 mod common;
 
-use baseline::entry::{entry, key, kind, reserved_places};
+use baseline::chains;
+use baseline::entry::{deletes, entry, key, kind};
 use baseline::reply::{numbers, Refusal};
+use baseline::rule::Rule;
 use baseline::soundness::{slot, Check};
 use baseline::workload::damage::damage;
-use baseline::workload::histories::{any_call, recorded, small_world};
+use baseline::workload::histories::{any_call, recorded, small_world, Recorded};
 use baseline::workload::packs::{employ_idle_job, Sort, IDLE_JOB};
 use baseline::workload::random::Random;
 use baseline::workload::world::{Call, World};
 use common::*;
-
-/// What all checks say.
-fn is_sound(world: &mut World) -> bool {
-    let sound = world.is_sound(Check::Pairs);
-    for check in Check::ALL {
-        assert_eq!(world.is_sound(check), sound, "{check:?}");
-    }
-    sound
-}
 
 /// Two tiles in three places; job 1 has inserted the first and job 2 deleted another.
 fn sound_case() -> Case {
@@ -29,6 +23,16 @@ fn sound_case() -> Case {
     assert_eq!(case.delete(2, B), OK);
     assert_eq!(case.insert(1, C), OK);
     case
+}
+
+/// Tiles in use and places reserved, by the rule of the session.
+fn spoken_for(world: &World) -> usize {
+    let used = &world.operations[..world.session.operations];
+    let reserved = match world.session.rule {
+        Rule::Alone => deletes(used),
+        Rule::Together => chains::reserved_places(used),
+    };
+    world.session.tiles + reserved
 }
 
 type Breach = (&'static str, fn(&mut World));
@@ -78,7 +82,7 @@ fn an_unused_operation_place_and_tile_room() {
 fn no_later_entry_has_a_tile_that_was_changed() {
     for (at, later) in [(0, 1), (0, 1_023), (511, 512), (511, 1_023), (1_022, 1_023)] {
         for sort in [Sort::Changing, Sort::Colliding] {
-            let mut world = sort.pack(9);
+            let mut world = sort.pack(Rule::Alone, 9);
             let changed = world.operations[at];
             // found the tile as the entry left it, so that only the order is wrong
             let finding = entry(kind(changed) + 1, 1, key(changed));
@@ -92,17 +96,16 @@ fn no_later_entry_has_a_tile_that_was_changed() {
 
 #[test]
 fn packs_are_sound_full_and_different() {
-    for sort in Sort::ALL {
-        let mut packs: Vec<World> = (0..16).map(|seed| sort.pack(seed)).collect();
+    for (rule, sort) in Sort::all() {
+        let mut packs: Vec<World> = (0..16).map(|seed| sort.pack(rule, seed)).collect();
         assert!(packs.iter_mut().all(is_sound));
         for (at, pack) in packs.iter().enumerate() {
             assert!(!packs[..at].contains(pack));
-            let used = &pack.operations[..pack.session.operations];
-            let is_full = pack.session.tiles + reserved_places(used) == pack.tiles.len();
+            let is_full = spoken_for(pack) == pack.tiles.len();
             assert_eq!(is_full, sort != Sort::LittleUsed);
         }
     }
-    let pack = Sort::Colliding.pack(3);
+    let pack = Sort::Colliding.pack(Rule::Alone, 3);
     let first = slot(key(pack.operations[0]));
     assert!(pack.operations.iter().all(|&e| slot(key(e)) == first));
 }
@@ -110,7 +113,7 @@ fn packs_are_sound_full_and_different() {
 #[test]
 fn the_idle_job_gets_entries() {
     for count in [0, 16, 256, 1_024] {
-        let mut pack = Sort::Mixed.pack(1);
+        let mut pack = Sort::Mixed.pack(Rule::Alone, 1);
         employ_idle_job(&mut pack, count);
         assert!(is_sound(&mut pack));
         pack.call(Check::Filter, Call::Abort(IDLE_JOB)).unwrap();
@@ -123,42 +126,56 @@ fn the_idle_job_gets_entries() {
 fn checks_agree_on_damaged_tables() {
     let mut random = Random::seeded(11);
     let mut refused = 0;
-    for sort in Sort::ALL {
-        for seed in 0..4 {
-            let pack = sort.pack(seed);
-            for _ in 0..80 {
+    for (rule, sort) in Sort::all() {
+        for seed in 0..3 {
+            let pack = sort.pack(rule, seed);
+            for _ in 0..60 {
                 let mut damaged = pack.clone();
                 damage(&mut random, &mut damaged);
                 refused += usize::from(!is_sound(&mut damaged));
             }
         }
     }
-    assert!((1_000..1_900).contains(&refused), "{refused}");
+    assert!((1_500..2_600).contains(&refused), "{refused}");
 }
 
 #[test]
 fn checks_agree_on_random_histories() {
     let mut random = Random::seeded(12);
+    for rule in Rule::ALL {
+        let told = replies_of_histories(&mut random, rule);
+        let never: Vec<usize> = (0..10).filter(|&n| told[n] == 0).collect();
+        assert_eq!(never, [1], "{told:?}");
+    }
+}
+
+fn replies_of_histories(random: &mut Random, rule: Rule) -> [usize; 10] {
     let mut told = [0; 10];
     for _ in 0..100 {
         let keys = random.distinct_keys(Vec::new(), 8);
         let mut case = Case {
-            world: small_world(&mut random, &keys),
+            world: small_world(random, &keys),
         };
+        let start = Call::Start(case.world.session.tiles, rule);
+        assert_eq!(case.call(start), DONE);
         for _ in 0..160 {
-            let call = any_call(&mut random, &keys, 5);
+            let call = any_call(random, &keys, 5);
             let reply = case.call(call);
             told[numbers(reply)[0] as usize] += 1;
             assert!(is_sound(&mut case.world), "after {call:?}");
         }
     }
-    let never: Vec<usize> = (0..10).filter(|&n| told[n] == 0).collect();
-    assert_eq!(never, [1], "{told:?}");
+    told
 }
 
 #[test]
 fn the_recorded_list_stays_full() {
-    let recorded = recorded(3, 1_500);
+    for rule in Rule::ALL {
+        stays_full(recorded(rule, 3, 1_500));
+    }
+}
+
+fn stays_full(recorded: Recorded) {
     let mut world = recorded.start;
     let mut told = [0; 10];
     for stretch in recorded.stretches {
@@ -166,9 +183,8 @@ fn the_recorded_list_stays_full() {
             world.call(Check::Filter, call).unwrap();
         }
         for call in stretch.operations {
-            let used = &world.operations[..world.session.operations];
-            assert!(used.len() >= 960);
-            assert!(world.session.tiles + reserved_places(used) >= 4_000);
+            assert!(world.session.operations >= 900);
+            assert!(spoken_for(&world) >= 4_000);
             let reply = world.call(Check::Filter, call);
             assert_ne!(reply, Err(Refusal::NoJournalRoom));
             told[numbers(reply)[0] as usize] += 1;

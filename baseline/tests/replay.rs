@@ -2,8 +2,9 @@
 
 mod common;
 
-use baseline::journal::{read, Reading};
+use baseline::journal::{read, Reading, Record};
 use baseline::replay::{replay, Replayed, Stop};
+use baseline::rule::Rule;
 use baseline::soundness::Check;
 use baseline::workload::histories::{any_call, small_world};
 use baseline::workload::journals::{write_full, Load};
@@ -57,11 +58,11 @@ fn a_cut_tail_is_not_malformed() {
         assert_eq!(stops(&EXAMPLE[..bytes]).1, whole.unwrap());
     }
     // in a cut record only the tag and the length count
-    assert_eq!(read(&[2, 0, 7, 200, 9, 9]), Reading::Cut);
-    assert_eq!(read(&[2, 0, 1]), Reading::Malformed);
-    assert_eq!(read(&[1, 1]), Reading::Malformed);
-    assert_eq!(read(&[5]), Reading::Malformed);
-    assert_eq!(read(&[]), Reading::End);
+    assert_eq!(read(&[2, 0, 7, 200, 9, 9], 0), Reading::Cut);
+    assert_eq!(read(&[2, 0, 1], 0), Reading::Malformed);
+    assert_eq!(read(&[1, 1], 0), Reading::Malformed);
+    assert_eq!(read(&[6], 0), Reading::Malformed);
+    assert_eq!(read(&[], 0), Reading::End);
 }
 
 #[test]
@@ -138,21 +139,68 @@ fn what_cannot_start_changes_nothing() {
     assert_eq!(replayed(&EXAMPLE, &start), (refused, start.tiles.clone()));
 }
 
+const TOGETHER: [u8; 4] = [5, 0, 1, 2];
+
+#[test]
+fn a_rule_record_stands_only_at_the_beginning() {
+    let behind = |first: &[u8]| [first, &TOGETHER].concat();
+    assert_eq!(read(&TOGETHER, 0), Reading::Whole(Record::Together));
+    assert_eq!(stops(&TOGETHER), (Stop::Done, 4, 0, 0));
+    assert_eq!(stops(&behind(&TOGETHER)), (Stop::Malformed, 4, 0, 0));
+    assert_eq!(stops(&behind(&EXAMPLE)), (Stop::Malformed, 32, 1, 1));
+    for field in [0, 1, 3, 255] {
+        assert_eq!(stops(&[5, 0, 1, field]), (Stop::Malformed, 0, 0, 0));
+    }
+    for wrong in [&[5, 1][..], &[5, 0, 2], &[5, 0, 2, 2]] {
+        assert_eq!(stops(wrong), (Stop::Malformed, 0, 0, 0));
+    }
+    // a tail that is cut is cut, wherever it stands
+    for bytes in 1..4 {
+        assert_eq!(stops(&TOGETHER[..bytes]), (Stop::Done, 0, 0, 0));
+        let cut = [&EXAMPLE, &TOGETHER[..bytes]].concat();
+        assert_eq!(stops(&cut), (Stop::Done, 32, 1, 1));
+    }
+}
+
+#[test]
+fn a_journal_runs_by_the_rule_that_it_names() {
+    let asks_own = [&EXAMPLE[..14], &[2, 0, 7, 3, 3, 1], &EXAMPLE[10..14]].concat();
+    assert_eq!(stops(&asks_own), (Stop::NotAdmissible, 14, 1, 0));
+    let named = [&TOGETHER[..], &asks_own].concat();
+    assert_eq!(stops(&named), (Stop::Done, 28, 1, 0));
+    // part of the record in front is no cut tail
+    assert_eq!(stops(&named[1..]), (Stop::Malformed, 0, 0, 0));
+}
+
 /// After every accepted call, the replay of what is written so far leaves what the calls and the
-/// end of the open jobs leave.
+/// end of the open jobs leave; and a cut before the next leaves the same.
 #[test]
 fn a_replay_is_the_calls_that_wrote_the_journal() {
     let mut random = Random::seeded(21);
-    for _ in 0..60 {
+    for at in 0..60 {
         let keys = random.distinct_keys(Vec::new(), 8);
         let start = small_world(&mut random, &keys);
         let mut world = start.clone();
+        let rule = Rule::ALL[at % 2];
+        let started = world.call(Check::Filter, Call::Start(start.session.tiles, rule));
+        assert_eq!(started, DONE);
         for _ in 0..80 {
             let call = any_call(&mut random, &keys, 5);
+            let before = world.clone();
             if world.call(Check::Filter, call).is_ok() {
                 holds_after(&world, &start);
+                holds_at_cuts(&before, world.written(), &start);
             }
         }
+    }
+}
+
+/// What is cut inside the last record leaves what was before it.
+fn holds_at_cuts(before: &World, journal: &[u8], start: &World) {
+    let whole = before.session.journal;
+    let expected = replayed(&journal[..whole], start);
+    for bytes in whole + 1..journal.len() {
+        assert!(replayed(&journal[..bytes], start) == expected);
     }
 }
 
@@ -169,14 +217,17 @@ fn holds_after(world: &World, start: &World) {
 #[test]
 fn full_journals() {
     let mut random = Random::seeded(22);
-    for (load, open) in [(Load::Few, 50..400), (Load::Many, 900..1_025)] {
-        let keys = random.distinct_keys(Vec::new(), 5_000);
-        let start = World::with_tiles(keys[..3_000].to_vec());
-        let written = write_full(&mut random, load, start, &keys);
-        assert!(written.journal.len() > 65_000);
-        assert!(open.contains(&written.end.session.operations));
-        assert_eq!(written.end.written(), written.journal);
-        holds_after(&written.end, &written.start);
+    for rule in Rule::ALL {
+        for (load, open) in [(Load::Few, 50..500), (Load::Many, 800..1_025)] {
+            let keys = random.distinct_keys(Vec::new(), 5_000);
+            let start = World::with_tiles(keys[..3_000].to_vec());
+            let written = write_full(&mut random, rule, load, start, &keys);
+            assert!(written.journal.len() > 65_000);
+            let entries = written.end.session.operations;
+            assert!(open.contains(&entries), "{entries}");
+            assert_eq!(written.end.written(), written.journal);
+            holds_after(&written.end, &written.start);
+        }
     }
 }
 

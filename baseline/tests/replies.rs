@@ -5,8 +5,9 @@ mod common;
 
 use baseline::journal::Procedure;
 use baseline::reply::{numbers, Refusal};
+use baseline::rule::Rule;
 use baseline::tile::Address;
-use baseline::workload::world::{Call, World};
+use baseline::workload::world::Call;
 use common::*;
 
 const NOWHERE: Address = Address {
@@ -83,25 +84,10 @@ fn open_jobs_can_end_when_the_journal_is_full() {
 }
 
 #[test]
-fn a_refused_start_gives_an_empty_session_and_touches_no_table() {
-    let mut world = World::with_tiles(vec![A.key().unwrap()]);
-    world.operations[5] = 99;
-    let mut case = Case { world };
-    for count in [0, 2, 4_097, usize::MAX] {
-        let before = case.world.clone();
-        assert_eq!(case.call(Call::Start(count)), Err(Refusal::NotSound));
-        case.world.session.tiles = before.session.tiles;
-        assert!(case.world == before);
-    }
-    assert_eq!(case.call(Call::Start(1)), DONE);
-    assert_eq!(case.world.operations, [0; 1_024]);
-}
-
-#[test]
 fn records_are_written_as_the_paper_says() {
     let mut case = Case::ample(&[]);
     case.world.journal.fill(0xEE);
-    assert_eq!(case.call(Call::Start(0)), DONE);
+    assert_eq!(case.call(Call::Start(0, Rule::Alone)), DONE);
     assert_eq!(case.call(Call::Open(3)), DONE);
     assert_eq!(case.insert(3, A), OK);
     assert_eq!(case.commit(3), DONE);

@@ -2,6 +2,8 @@
 
 use super::random::Random;
 use super::world::World;
+use crate::entry::{entry, job, key, kind};
+use crate::rule::Rule;
 use crate::session::{JOBS, MOST_JOURNAL, MOST_OPERATIONS, MOST_TILES};
 
 /// Makes one change; now and then the session is sound after it all the same.
@@ -31,29 +33,44 @@ fn damage_entries(random: &mut Random, operations: &mut [u64], used: usize) {
         return;
     }
     let (one, other) = (random.below(used), random.below(used));
-    match random.below(6) {
+    match random.below(9) {
         0 => operations[any] ^= 1 << random.below(48),
         1 => operations.swap(one, other),
         // the neighbour, and then any other, gets the same tile
         2 => operations[one] = with_key_of(operations[one], operations[(one + 1) % used]),
         3 => operations[one] = with_key_of(operations[one], operations[other]),
         4 => operations[one] ^= (1 + random.below(7) as u64) << 40,
+        // an insert becomes a delete, and a delete an insert
+        5 => operations[one] ^= 2 << 40,
+        6 => operations[one] = with_job_of(operations[one], operations[other]),
+        // the entry stands once more, on the place of its neighbour or of any other
+        7 => operations[(one + random.pick(&[1, other])) % used] = operations[one],
         _ => operations[one] = with_key_of(operations[one], u64::from(random.key())),
     }
 }
 
-fn with_key_of(entry: u64, other: u64) -> u64 {
-    entry >> 32 << 32 | u64::from(other as u32)
+fn with_key_of(one: u64, other: u64) -> u64 {
+    entry(kind(one), job(one), key(other))
+}
+
+fn with_job_of(one: u64, other: u64) -> u64 {
+    entry(kind(one), job(other), key(one))
 }
 
 fn damage_session(random: &mut Random, world: &mut World) {
     let session = &mut world.session;
-    match random.below(5) {
+    match random.below(7) {
         0 => session.marks[random.below(JOBS)] ^= true,
         1 => session.tiles = random.below(MOST_TILES + 2),
         2 => session.operations = random.below(MOST_OPERATIONS + 2),
         3 => session.journal = world.journal.len() + 4 - random.below(300).min(world.journal.len()),
-        _ => session.tiles = usize::MAX - random.below(2),
+        4 => session.tiles = usize::MAX - random.below(2),
+        _ => {
+            session.rule = match session.rule {
+                Rule::Alone => Rule::Together,
+                Rule::Together => Rule::Alone,
+            }
+        }
     }
 }
 

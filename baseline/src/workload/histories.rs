@@ -2,8 +2,10 @@
 
 use super::random::Random;
 use super::world::{Call, World};
+use crate::entry::{job, key};
 use crate::journal::Procedure;
 use crate::reply::Refusal;
+use crate::rule::Rule;
 use crate::session::{JOBS, MOST_OPERATIONS};
 use crate::soundness::Check;
 use crate::tile::Address;
@@ -47,6 +49,18 @@ fn any_address(random: &mut Random, keys: &[u32]) -> Address {
     address
 }
 
+/// A job and a tile for its next operation. By the second rule they are often those of an entry,
+/// for a job may go on with what it changed.
+pub fn job_and_tile(random: &mut Random, keys: &[u32], world: &World) -> (u8, u32) {
+    let entries = &world.operations[..world.session.operations];
+    if world.session.rule == Rule::Together && !entries.is_empty() && random.one_in(2) {
+        let entry = random.pick(entries);
+        return (job(entry), key(entry));
+    }
+    let key = random.pick(keys);
+    (random.below(JOBS) as u8, key)
+}
+
 /// Operations that follow some calls that make room for them.
 pub struct Stretch {
     pub freeing: Vec<Call>,
@@ -70,10 +84,11 @@ const ASKED: [Procedure; 6] = [
     Procedure::Member,
 ];
 
-pub fn recorded(seed: u64, operations: usize) -> Recorded {
+pub fn recorded(rule: Rule, seed: u64, operations: usize) -> Recorded {
     let mut random = Random::seeded(seed);
     let keys = random.distinct_keys(Vec::new(), 6_000);
     let mut world = World::with_tiles(keys[..4_000].to_vec());
+    world.session.rule = rule;
     for job in 0..JOBS as u8 {
         let opened = world.call(Check::Filter, Call::Open(job));
         debug_assert!(opened.is_ok());
@@ -100,13 +115,17 @@ pub fn recorded(seed: u64, operations: usize) -> Recorded {
 }
 
 /// Operations until the table of operations is found full some times, or there are so many.
-fn stretch_until(random: &mut Random, keys: &[u32], world: &mut World, most: usize) -> Vec<Call> {
+pub fn stretch_until(
+    random: &mut Random,
+    keys: &[u32],
+    world: &mut World,
+    most: usize,
+) -> Vec<Call> {
     let mut operations = Vec::new();
     let mut found_full = 0;
     while found_full < 2 && operations.len() < most {
-        let address = Address::of_key(random.pick(keys));
-        let job = random.below(JOBS) as u8;
-        let call = Call::Operation(job, random.pick(&ASKED), address);
+        let (job, key) = job_and_tile(random, keys, world);
+        let call = Call::Operation(job, random.pick(&ASKED), Address::of_key(key));
         if world.call(Check::Filter, call) == Err(Refusal::NoOperationRoom) {
             found_full += 1;
         }

@@ -1,10 +1,11 @@
 //! Journals to replay: one that the calls wrote until it was full, and pieces and wrong versions.
 
+use super::histories::job_and_tile;
 use super::random::Random;
 use super::world::{Call, World};
-use crate::journal::Procedure;
+use crate::journal::{Procedure, RULE_RECORD};
 use crate::reply::Refusal;
-use crate::session::JOBS;
+use crate::rule::Rule;
 use crate::soundness::Check;
 use crate::tile::Address;
 
@@ -27,7 +28,7 @@ impl Load {
     }
 }
 
-/// A journal, and the worlds before and after the calls that wrote it.
+/// A journal, and the worlds before the start and after the calls that wrote it.
 pub struct Written {
     pub journal: Vec<u8>,
     pub start: World,
@@ -42,18 +43,25 @@ const ASKED: [Procedure; 5] = [
     Procedure::Member,
 ];
 
-/// Calls on this world, with random keys and these, until there is no journal room for an operation.
-pub fn write_full(random: &mut Random, load: Load, start: World, keys: &[u32]) -> Written {
+/// A start by the rule and calls with these keys, until there is no journal room for one.
+pub fn write_full(
+    random: &mut Random,
+    rule: Rule,
+    load: Load,
+    start: World,
+    keys: &[u32],
+) -> Written {
     let mut world = start.clone();
+    let started = world.call(Check::Filter, Call::Start(start.session.tiles, rule));
+    debug_assert!(started.is_ok());
     loop {
-        let job = random.below(JOBS) as u8;
+        let (job, key) = job_and_tile(random, keys, &world);
         let call = if !world.session.is_open(job) {
             Call::Open(job)
         } else if random.one_in(load.calls_of_a_job()) {
             random.pick(&[Call::Commit(job), Call::Commit(job), Call::Abort(job)])
         } else {
-            let address = Address::of_key(random.pick(keys));
-            Call::Operation(job, random.pick(&ASKED), address)
+            Call::Operation(job, random.pick(&ASKED), Address::of_key(key))
         };
         if world.call(Check::Filter, call) == Err(Refusal::NoJournalRoom) {
             break;
@@ -66,7 +74,8 @@ pub fn write_full(random: &mut Random, load: Load, start: World, keys: &[u32]) -
     }
 }
 
-/// The journal with a byte changed, a piece missing or put in twice, or its end cut off.
+/// The journal with a byte changed, a piece missing or put in twice, its end cut off, or a rule
+/// record put in or taken away.
 pub fn spoilt(random: &mut Random, journal: &[u8]) -> Vec<u8> {
     let mut spoilt = journal.to_vec();
     if spoilt.is_empty() {
@@ -74,7 +83,7 @@ pub fn spoilt(random: &mut Random, journal: &[u8]) -> Vec<u8> {
     }
     let at = random.below(spoilt.len());
     let end = spoilt.len().min(at + 1 + random.below(24));
-    match random.below(6) {
+    match random.below(9) {
         0 | 1 => spoilt[at] = random.below(10) as u8,
         2 => spoilt[at] ^= 1 << random.below(8),
         3 => {
@@ -84,7 +93,15 @@ pub fn spoilt(random: &mut Random, journal: &[u8]) -> Vec<u8> {
             let piece = spoilt[at..end].to_vec();
             spoilt.splice(at..at, piece);
         }
-        _ => spoilt.truncate(at),
+        5 => spoilt.truncate(at),
+        6 => {
+            spoilt.drain(..spoilt.len().min(RULE_RECORD));
+        }
+        _ => {
+            let place = random.pick(&[0, 0, spoilt.len(), at]);
+            let record = [5, 0, 1, random.pick(&[2, 2, 2, 0, 1, 3])];
+            spoilt.splice(place..place, record);
+        }
     }
     spoilt
 }

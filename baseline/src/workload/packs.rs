@@ -1,8 +1,10 @@
 //! Sound sessions of several sorts, most of them with full tables.
 
+use super::histories::stretch_until;
 use super::random::Random;
 use super::world::World;
 use crate::entry::{self, ALREADY_GONE, ALREADY_THERE, DELETED, INSERTED, NOT_SEEN, SEEN};
+use crate::rule::Rule;
 use crate::session::{JOBS, MOST_OPERATIONS, MOST_TILES};
 use crate::soundness::{slot, SPREAD};
 use crate::tile::is_key;
@@ -15,6 +17,9 @@ pub enum Sort {
     Colliding,
     LittleUsed,
     Small,
+    Own,
+    Replaced,
+    ReplacedApart,
 }
 
 /// A job that is closed in every pack; all others are open.
@@ -23,8 +28,12 @@ pub const CLOSED_JOB: u8 = JOBS as u8 - 1;
 /// A job that is open and has no entries, until it is given some.
 pub const IDLE_JOB: u8 = 0;
 
+/// So many tiles were replaced where the operations table is full of it.
+const REPLACED: usize = MOST_OPERATIONS / 2;
+
 impl Sort {
-    pub const ALL: [Sort; 6] = [
+    /// Those that are sound by both rules.
+    pub const OF_BOTH: [Sort; 6] = [
         Sort::Mixed,
         Sort::Changing,
         Sort::Unchanging,
@@ -32,6 +41,17 @@ impl Sort {
         Sort::LittleUsed,
         Sort::Small,
     ];
+
+    /// Those in which jobs went on with what they changed.
+    pub const OF_TOGETHER: [Sort; 3] = [Sort::Own, Sort::Replaced, Sort::ReplacedApart];
+
+    /// Every sort, by every rule by which it is sound.
+    pub fn all() -> impl Iterator<Item = (Rule, Sort)> {
+        let of_both = |rule| Sort::OF_BOTH.into_iter().map(move |sort| (rule, sort));
+        let of_together = Sort::OF_TOGETHER.into_iter();
+        let of_together = of_together.map(|sort| (Rule::Together, sort));
+        Rule::ALL.into_iter().flat_map(of_both).chain(of_together)
+    }
 
     pub fn name(self) -> &'static str {
         match self {
@@ -41,6 +61,9 @@ impl Sort {
             Sort::Colliding => "full, keys collide in the filter",
             Sort::LittleUsed => "100 tiles, 12 entries in use",
             Sort::Small => "full, 64 and 16 places",
+            Sort::Own => "full, mixed kinds on own tiles",
+            Sort::Replaced => "full, each deleted, inserted again",
+            Sort::ReplacedApart => "full, all deleted, all inserted again",
         }
     }
 
@@ -49,7 +72,7 @@ impl Sort {
             Sort::Changing => &[INSERTED, DELETED],
             Sort::Unchanging => &[ALREADY_THERE, ALREADY_GONE, SEEN, NOT_SEEN],
             Sort::Colliding => &[INSERTED],
-            Sort::Mixed | Sort::LittleUsed | Sort::Small => &[
+            _ => &[
                 INSERTED,
                 ALREADY_THERE,
                 DELETED,
@@ -69,8 +92,19 @@ impl Sort {
         }
     }
 
-    pub fn pack(self, seed: u64) -> World {
+    pub fn pack(self, rule: Rule, seed: u64) -> World {
         let mut random = Random::seeded(seed);
+        let mut world = match self {
+            Sort::Own => own_tiles(&mut random),
+            Sort::Replaced => replaced(&mut random, |at| (at / 2, at % 2 == 0)),
+            Sort::ReplacedApart => replaced(&mut random, |at| (at % REPLACED, at < REPLACED)),
+            _ => self.changed_once(&mut random),
+        };
+        world.session.rule = rule;
+        world
+    }
+
+    fn changed_once(self, random: &mut Random) -> World {
         let (places, entries) = self.usage();
         let kinds: Vec<u64> = (0..entries).map(|_| random.pick(self.kinds())).collect();
         let own_keys = match self {
@@ -78,7 +112,7 @@ impl Sort {
             _ => Vec::new(),
         };
         let keys = random.distinct_keys(own_keys, places + 2 * entries);
-        let mut world = world_of(&mut random, places, &kinds, &keys);
+        let mut world = world_of(random, places, &kinds, &keys);
         if self == Sort::Small {
             world.tiles.truncate(places);
             world.operations.truncate(entries);
@@ -101,12 +135,48 @@ fn world_of(random: &mut Random, places: usize, kinds: &[u64], keys: &[u32]) -> 
             ALREADY_THERE | SEEN => present[shared],
             _ => absent[shared],
         };
-        let job = 1 + at as u8 % (CLOSED_JOB - 1);
-        world.operations[at] = entry::entry(kind, job, key);
+        world.operations[at] = entry::entry(kind, employed_job(at), key);
     }
     world.session.operations = kinds.len();
+    open_jobs(&mut world);
+    world
+}
+
+/// A job that is neither idle nor closed.
+fn employed_job(at: usize) -> u8 {
+    1 + (at % usize::from(CLOSED_JOB - 1)) as u8
+}
+
+fn open_jobs(world: &mut World) {
     world.session.marks = [true; JOBS];
     world.session.marks[usize::from(CLOSED_JOB)] = false;
+}
+
+/// Tiles that a job each deleted and inserted again. For every entry it is given which tile it has
+/// and whether it is the delete.
+fn replaced(random: &mut Random, entry_at: fn(usize) -> (usize, bool)) -> World {
+    let keys = random.distinct_keys(Vec::new(), MOST_TILES);
+    let mut world = World::with_tiles(keys.clone());
+    for (at, place) in world.operations.iter_mut().enumerate() {
+        let (tile, is_delete) = entry_at(at);
+        let kind = if is_delete { DELETED } else { INSERTED };
+        *place = entry::entry(kind, employed_job(tile), keys[tile]);
+    }
+    world.session.operations = MOST_OPERATIONS;
+    open_jobs(&mut world);
+    world
+}
+
+/// What calls leave, by which jobs often went on with what they changed.
+fn own_tiles(random: &mut Random) -> World {
+    let keys = random.distinct_keys(Vec::new(), 2 * MOST_TILES);
+    let mut world = World::with_tiles(keys[..MOST_TILES - 64].to_vec());
+    world.session.rule = Rule::Together;
+    open_jobs(&mut world);
+    world.session.marks[usize::from(IDLE_JOB)] = false;
+    stretch_until(random, &keys, &mut world, usize::MAX);
+    world.session.journal = 0;
+    open_jobs(&mut world);
     world
 }
 

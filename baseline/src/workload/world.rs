@@ -3,6 +3,7 @@
 use crate::calls;
 use crate::journal::Procedure;
 use crate::reply::Reply;
+use crate::rule::Rule;
 use crate::session::{Session, Tables, MOST_JOURNAL, MOST_OPERATIONS, MOST_TILES};
 use crate::soundness::{is_sound, Check};
 use crate::tile::Address;
@@ -17,7 +18,7 @@ pub struct World {
 
 #[derive(Clone, Copy, Debug, PartialEq, Eq)]
 pub enum Call {
-    Start(usize),
+    Start(usize, Rule),
     Open(u8),
     Operation(u8, Procedure, Address),
     Commit(u8),
@@ -28,7 +29,7 @@ impl World {
     /// Tables of the largest lengths with these tiles, which need not be in order, and no job.
     pub fn with_tiles(mut tiles: Vec<u32>) -> World {
         tiles.sort_unstable();
-        let session = Session::fresh(tiles.len());
+        let session = Session::fresh(Rule::Alone, tiles.len());
         tiles.resize(MOST_TILES, 0);
         World {
             session,
@@ -55,7 +56,7 @@ impl World {
     pub fn call(&mut self, check: Check, call: Call) -> Reply {
         let (session, tables) = self.lend();
         match call {
-            Call::Start(count) => calls::start(check, session, tables, count),
+            Call::Start(count, rule) => calls::start(check, session, tables, count, rule),
             Call::Open(job) => calls::open(check, session, tables, job),
             Call::Operation(job, procedure, address) => {
                 calls::operation(check, session, tables, job, procedure, address)

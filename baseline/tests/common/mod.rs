@@ -3,6 +3,7 @@
 
 use baseline::journal::Procedure;
 use baseline::reply::{Refusal, Reply};
+use baseline::rule::Rule;
 use baseline::session::JOBS;
 use baseline::soundness::Check;
 use baseline::tile::Address;
@@ -41,13 +42,17 @@ impl Case {
         Case::with_places(4_096, present)
     }
 
-    /// So many tile places, these tiles, and jobs 1 and 2 open.
+    /// So many tile places, these tiles, and jobs 1 and 2 open, by the first rule.
     pub fn with_places(places: usize, present: &[Address]) -> Case {
+        Case::by(Rule::Alone, places, present)
+    }
+
+    pub fn by(rule: Rule, places: usize, present: &[Address]) -> Case {
         let keys = present.iter().filter_map(|a| a.key()).collect();
         let mut world = World::with_tiles(keys);
         world.tiles.truncate(places);
         let mut case = Case { world };
-        assert_eq!(case.call(Call::Start(present.len())), DONE);
+        assert_eq!(case.call(Call::Start(present.len(), rule)), DONE);
         assert_eq!(case.call(Call::Open(1)), DONE);
         assert_eq!(case.call(Call::Open(2)), DONE);
         case
@@ -62,7 +67,7 @@ impl Case {
             assert_eq!(other.call(check, call), reply, "{check:?} {call:?}");
             assert!(other == self.world, "{check:?} {call:?}");
         }
-        if reply.is_err() && !matches!(call, Call::Start(_)) {
+        if reply.is_err() && !matches!(call, Call::Start(..)) {
             assert!(self.world == before, "{call:?} was refused");
         }
         reply
@@ -92,6 +97,15 @@ impl Case {
         let used = &self.world.tiles[..self.world.session.tiles];
         address.key().map_or(false, |key| used.contains(&key))
     }
+}
+
+/// What all checks say.
+pub fn is_sound(world: &mut World) -> bool {
+    let sound = world.is_sound(Check::Pairs);
+    for check in Check::ALL {
+        assert_eq!(world.is_sound(check), sound, "{check:?}");
+    }
+    sound
 }
 
 /// The world as it is after every open job is aborted.

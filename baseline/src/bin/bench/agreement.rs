@@ -1,7 +1,9 @@
 //! Holds every way against the first: each field of a reply, the session and all buffers.
 
-use crate::census::Census;
+use crate::census::{Census, Compared};
 use crate::ways::{Way, WAYS};
+use baseline::journal::{read, Reading, Record};
+use baseline::rule::Rule;
 use baseline::workload::damage::damage;
 use baseline::workload::histories::{any_call, recorded, small_world};
 use baseline::workload::journals::{spoilt, write_full, Load};
@@ -11,8 +13,8 @@ use baseline::workload::world::{Call, World};
 
 type Agreed = Result<(), String>;
 
-const PACKS_OF_A_SORT: u64 = 16;
-const DAMAGES_OF_A_PACK: usize = 40;
+const PACKS_OF_A_SORT: u64 = 8;
+const DAMAGES_OF_A_PACK: usize = 30;
 const SMALL_HISTORIES: usize = 150;
 const CALLS_OF_A_HISTORY: usize = 160;
 const SPOILT_JOURNALS: usize = 200;
@@ -22,9 +24,11 @@ const RECORDED_OPERATIONS: usize = 600;
 pub fn compare_all() -> Result<Census, String> {
     let mut census = Census::default();
     compare_packs(&mut census)?;
-    compare_small_histories(&mut census)?;
-    compare_recorded(&mut census)?;
-    compare_full_journals(&mut census)?;
+    for rule in Rule::ALL {
+        compare_small_histories(&mut census, rule)?;
+        compare_recorded(&mut census, rule)?;
+        compare_full_journals(&mut census, rule)?;
+    }
     match census.missing() {
         Some(missing) => Err(missing),
         None => Ok(census),
@@ -35,7 +39,11 @@ pub fn compare_all() -> Result<Census, String> {
 fn compare_call(census: &mut Census, world: &mut World, call: Call) -> Agreed {
     let before = world.clone();
     let expected = WAYS[0].call(world, call);
-    census.count_call(expected[0]);
+    let (compared, rule) = match call {
+        Call::Start(_, rule) => (Compared::Start, rule),
+        _ => (Compared::Call, before.session.rule),
+    };
+    census.count(compared, rule, expected[0]);
     for way in &WAYS[1..] {
         let mut other = before.clone();
         let reply = way.call(&mut other, call);
@@ -53,7 +61,11 @@ fn compare_call(census: &mut Census, world: &mut World, call: Call) -> Agreed {
 fn compare_replay(census: &mut Census, journal: &[u8], start: &World) -> Agreed {
     let mut world = start.clone();
     let expected = WAYS[0].replay(journal, &mut world);
-    census.count_journal(expected[0]);
+    let rule = match read(journal, 0) {
+        Reading::Whole(Record::Together) => Rule::Together,
+        _ => Rule::Alone,
+    };
+    census.count(Compared::Replay, rule, expected[0]);
     for way in &WAYS[1..] {
         let mut other = start.clone();
         let reply = way.replay(journal, &mut other);
@@ -90,12 +102,12 @@ fn compare_checks(world: &mut World) -> Agreed {
     }
 }
 
-/// Full and small tables, sound and damaged: the check, a start and a few calls.
+/// Full and small tables, sound and damaged: the check, starts and a few calls.
 fn compare_packs(census: &mut Census) -> Agreed {
     let mut random = Random::seeded(1);
-    for sort in Sort::ALL {
+    for (rule, sort) in Sort::all() {
         for seed in 0..PACKS_OF_A_SORT {
-            let pack = sort.pack(seed);
+            let pack = sort.pack(rule, seed);
             compare_pack(census, &mut random, pack.clone())?;
             for _ in 0..DAMAGES_OF_A_PACK {
                 let mut damaged = pack.clone();
@@ -109,9 +121,9 @@ fn compare_packs(census: &mut Census) -> Agreed {
 
 fn compare_pack(census: &mut Census, random: &mut Random, mut world: World) -> Agreed {
     compare_checks(&mut world)?;
-    let mut started = world.clone();
-    let count = world.session.tiles;
-    compare_call(census, &mut started, Call::Start(count))?;
+    for rule in Rule::ALL {
+        compare_start(census, random, world.clone(), rule)?;
+    }
     let keys = random.distinct_keys(world.tiles.iter().copied().take(64).collect(), 128);
     for _ in 0..4 {
         let call = any_call(random, &keys, 64);
@@ -120,15 +132,28 @@ fn compare_pack(census: &mut Census, random: &mut Random, mut world: World) -> A
     Ok(())
 }
 
+/// A start on used tables, now and then with a journal that is short or with another count.
+fn compare_start(census: &mut Census, random: &mut Random, mut world: World, rule: Rule) -> Agreed {
+    world.journal.fill(0xEE);
+    let mut count = world.session.tiles;
+    if random.one_in(4) {
+        world.journal.truncate(random.below(6));
+    }
+    if random.one_in(8) {
+        count = count.wrapping_add(1);
+    }
+    compare_call(census, &mut world, Call::Start(count, rule))
+}
+
 /// Histories on small tables, and replays of what they wrote: whole, cut and spoilt.
-fn compare_small_histories(census: &mut Census) -> Agreed {
+fn compare_small_histories(census: &mut Census, rule: Rule) -> Agreed {
     let mut random = Random::seeded(2);
     for _ in 0..SMALL_HISTORIES {
         let keys = random.distinct_keys(Vec::new(), 8);
         let mut world = small_world(&mut random, &keys);
         let start = world.clone();
         let count = world.session.tiles;
-        compare_call(census, &mut world, Call::Start(count))?;
+        compare_call(census, &mut world, Call::Start(count, rule))?;
         for _ in 0..CALLS_OF_A_HISTORY {
             let call = any_call(&mut random, &keys, 5);
             compare_checks(&mut world)?;
@@ -163,8 +188,8 @@ fn compare_spoilt(
     Ok(())
 }
 
-fn compare_recorded(census: &mut Census) -> Agreed {
-    let recorded = recorded(3, RECORDED_OPERATIONS);
+fn compare_recorded(census: &mut Census, rule: Rule) -> Agreed {
+    let recorded = recorded(rule, 3, RECORDED_OPERATIONS);
     let mut world = recorded.start;
     for stretch in recorded.stretches {
         for call in stretch.freeing.into_iter().chain(stretch.operations) {
@@ -174,13 +199,13 @@ fn compare_recorded(census: &mut Census) -> Agreed {
     Ok(())
 }
 
-fn compare_full_journals(census: &mut Census) -> Agreed {
+fn compare_full_journals(census: &mut Census, rule: Rule) -> Agreed {
     let mut random = Random::seeded(4);
     for load in Load::ALL {
         for tiles in [0, 4_000] {
             let keys = random.distinct_keys(Vec::new(), 5_000);
             let start = World::with_tiles(keys[..tiles].to_vec());
-            let written = write_full(&mut random, load, start, &keys);
+            let written = write_full(&mut random, rule, load, start, &keys);
             compare_replay(census, &written.journal, &written.start)?;
             let too_long = [&written.journal[..], &[0; 65_536]].concat();
             compare_replay(census, &too_long, &written.start)?;

@@ -29,7 +29,9 @@ fn main() -> ExitCode {
     };
     println!("{}", census.shares());
     if !only_agree {
-        table::print(&scenes::time_all());
+        let rows = scenes::time_all();
+        table::print(&rows);
+        table::print_cost_of_replacing(&rows);
     }
     println!("{}", census.total());
     ExitCode::SUCCESS

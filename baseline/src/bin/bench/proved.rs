@@ -1,5 +1,6 @@
 //! The proved calls. A slice goes as a pointer and a length, an array as a pointer.
 
+use baseline::rule::Rule;
 use baseline::session::Session;
 use baseline::workload::world::{Call, World};
 
@@ -7,13 +8,15 @@ use baseline::workload::world::{Call, World};
 pub type Numbers = [u64; 4];
 
 type Marks = [bool; 64];
-type Counts = [usize; 3];
+
+/// The counts of tiles, operations and journal bytes, and the number of the rule.
+type Parts = [usize; 4];
 
 #[link(name = "bench", kind = "static")]
 extern "C" {
     fn bench_sound(
         marks: *const Marks,
-        counts: *const Counts,
+        parts: *const Parts,
         tiles: *const u32,
         tile_places: usize,
         operations: *const u64,
@@ -23,19 +26,20 @@ extern "C" {
     ) -> bool;
     fn bench_start(
         marks: *mut Marks,
-        counts: *mut Counts,
+        parts: *mut Parts,
         tiles: *const u32,
         tile_places: usize,
         operations: *mut u64,
         operation_places: usize,
-        journal: *const u8,
+        journal: *mut u8,
         journal_bytes: usize,
         count: usize,
+        rule: usize,
         reply: *mut Numbers,
     );
     fn bench_open(
         marks: *mut Marks,
-        counts: *mut Counts,
+        parts: *mut Parts,
         tiles: *const u32,
         tile_places: usize,
         operations: *const u64,
@@ -47,7 +51,7 @@ extern "C" {
     );
     fn bench_operation(
         marks: *mut Marks,
-        counts: *mut Counts,
+        parts: *mut Parts,
         tiles: *mut u32,
         tile_places: usize,
         operations: *mut u64,
@@ -63,7 +67,7 @@ extern "C" {
     );
     fn bench_commit(
         marks: *mut Marks,
-        counts: *mut Counts,
+        parts: *mut Parts,
         tiles: *const u32,
         tile_places: usize,
         operations: *mut u64,
@@ -75,7 +79,7 @@ extern "C" {
     );
     fn bench_abort(
         marks: *mut Marks,
-        counts: *mut Counts,
+        parts: *mut Parts,
         tiles: *mut u32,
         tile_places: usize,
         operations: *mut u64,
@@ -97,17 +101,30 @@ extern "C" {
     );
 }
 
-fn counts_of(session: &Session) -> Counts {
-    [session.tiles, session.operations, session.journal]
+fn parts_of(session: &Session) -> Parts {
+    let rule = session.rule as usize;
+    [session.tiles, session.operations, session.journal, rule]
+}
+
+fn session_of(marks: Marks, parts: Parts) -> Session {
+    let [tiles, operations, journal, number] = parts;
+    let rule = Rule::ALL.into_iter().find(|&rule| rule as usize == number);
+    Session {
+        rule: rule.expect("the number of a rule"),
+        marks,
+        tiles,
+        operations,
+        journal,
+    }
 }
 
 pub fn is_sound(world: &World) -> bool {
-    let counts = counts_of(&world.session);
+    let parts = parts_of(&world.session);
     // SAFETY: each pointer is to as many elements as its length says, and is only read
     unsafe {
         bench_sound(
             &world.session.marks,
-            &counts,
+            &parts,
             world.tiles.as_ptr(),
             world.tiles.len(),
             world.operations.as_ptr(),
@@ -120,12 +137,12 @@ pub fn is_sound(world: &World) -> bool {
 
 /// A function with the arguments that all calls on a session have, and then its own.
 macro_rules! on_session {
-    ($function:ident($marks:expr, $counts:expr, $world:expr $(, $argument:expr)*)) => {
+    ($function:ident($marks:expr, $parts:expr, $world:expr $(, $argument:expr)*)) => {
         // SAFETY: each pointer is to as many elements as its length says, and no two overlap
         unsafe {
             $function(
                 $marks,
-                $counts,
+                $parts,
                 $world.tiles.as_mut_ptr(),
                 $world.tiles.len(),
                 $world.operations.as_mut_ptr(),
@@ -141,14 +158,16 @@ macro_rules! on_session {
 pub fn call(world: &mut World, call: Call) -> Numbers {
     let mut reply = [0; 4];
     let mut marks = world.session.marks;
-    let mut counts = counts_of(&world.session);
-    let (m, c, r) = (&mut marks, &mut counts, &mut reply);
+    let mut parts = parts_of(&world.session);
+    let (m, p, r) = (&mut marks, &mut parts, &mut reply);
     match call {
-        Call::Start(count) => on_session!(bench_start(m, c, world, count, r)),
-        Call::Open(job) => on_session!(bench_open(m, c, world, job, r)),
+        Call::Start(count, rule) => {
+            on_session!(bench_start(m, p, world, count, rule as usize, r))
+        }
+        Call::Open(job) => on_session!(bench_open(m, p, world, job, r)),
         Call::Operation(job, procedure, address) => on_session!(bench_operation(
             m,
-            c,
+            p,
             world,
             job,
             procedure as u8,
@@ -157,16 +176,10 @@ pub fn call(world: &mut World, call: Call) -> Numbers {
             address.row,
             r
         )),
-        Call::Commit(job) => on_session!(bench_commit(m, c, world, job, r)),
-        Call::Abort(job) => on_session!(bench_abort(m, c, world, job, r)),
+        Call::Commit(job) => on_session!(bench_commit(m, p, world, job, r)),
+        Call::Abort(job) => on_session!(bench_abort(m, p, world, job, r)),
     }
-    let [tiles, operations, journal] = counts;
-    world.session = Session {
-        marks,
-        tiles,
-        operations,
-        journal,
-    };
+    world.session = session_of(marks, parts);
     reply
 }
 

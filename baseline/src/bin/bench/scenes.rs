@@ -3,6 +3,7 @@
 
 use crate::table::Row;
 use crate::ways::{Way, WAYS};
+use baseline::rule::Rule;
 use baseline::workload::histories::{recorded, Recorded};
 use baseline::workload::journals::{write_full, Load, Written};
 use baseline::workload::packs::{employ_idle_job, Sort, CLOSED_JOB, IDLE_JOB};
@@ -15,20 +16,29 @@ const LIST_ROUNDS: usize = 15;
 const CALL_ROUNDS: usize = 25;
 const REPLAY_ROUNDS: usize = 40;
 const RECORDED_OPERATIONS: usize = 1_500;
+const ENTRIES: [usize; 4] = [16, 64, 256, 1_024];
 
 /// One repeated table teaches the branch predictor; so many different ones do not.
 const PACKS: u64 = 16;
 
 pub fn time_all() -> Vec<Row> {
-    let mut rows: Vec<Row> = Sort::ALL.into_iter().map(time_check).collect();
-    rows.push(time_recorded());
+    let checks = Sort::all().map(|(rule, sort)| time_check(rule, sort));
+    let mut rows: Vec<Row> = checks.collect();
+    rows.extend(Rule::ALL.map(time_recorded));
     rows.extend(time_calls());
-    for load in Load::ALL {
-        for tiles in [0, 4_000] {
-            rows.push(time_replay(load, tiles));
+    for rule in Rule::ALL {
+        for load in Load::ALL {
+            rows.extend([0, 4_000].map(|tiles| time_replay(rule, load, tiles)));
         }
     }
     rows
+}
+
+fn named(rule: Rule, call: &str, on: &str) -> String {
+    match rule {
+        Rule::Alone => format!("{call}: {on}"),
+        Rule::Together => format!("{call}, rule 2: {on}"),
+    }
 }
 
 /// Runs so many rounds. A round answers how long each of its pieces took; of every piece the best
@@ -64,18 +74,22 @@ fn timed(run: impl FnOnce()) -> Duration {
     begin.elapsed()
 }
 
-fn time_check(sort: Sort) -> Row {
-    let mut packs: Vec<World> = (0..PACKS).map(|seed| sort.pack(seed)).collect();
-    let name = format!("check: {}", sort.name());
+fn time_check(rule: Rule, sort: Sort) -> Row {
+    let mut packs: Vec<World> = (0..PACKS).map(|seed| sort.pack(rule, seed)).collect();
+    let name = check_name(rule, sort);
     best_of(name, CHECK_ROUNDS, packs.len(), |way| {
         let check_all = || assert!(packs.iter_mut().all(|pack| way.is_sound(pack)));
         vec![timed(check_all)]
     })
 }
 
-fn time_recorded() -> Row {
-    let recorded = recorded(3, RECORDED_OPERATIONS);
-    let name = "operation: recorded list".to_string();
+pub fn check_name(rule: Rule, sort: Sort) -> String {
+    named(rule, "check", sort.name())
+}
+
+fn time_recorded(rule: Rule) -> Row {
+    let recorded = recorded(rule, 3, RECORDED_OPERATIONS);
+    let name = named(rule, "operation", "recorded list");
     best_of(name, LIST_ROUNDS, RECORDED_OPERATIONS, |way| {
         time_list(way, &recorded)
     })
@@ -99,29 +113,31 @@ fn time_list(way: Way, recorded: &Recorded) -> Vec<Duration> {
 }
 
 fn time_calls() -> Vec<Row> {
-    let mut rows = vec![time_call("open", Call::Open(CLOSED_JOB), 0)];
-    for (name, call) in [
-        ("commit", Call::Commit(IDLE_JOB)),
-        ("abort", Call::Abort(IDLE_JOB)),
-    ] {
-        for entries in [16, 64, 256, 1_024] {
-            let name = format!("{name}: {entries} entries");
-            rows.push(time_call(&name, call, entries));
-        }
+    let (alone, together) = (Rule::Alone, Rule::Together);
+    let (commit, abort) = (Call::Commit(IDLE_JOB), Call::Abort(IDLE_JOB));
+    let open = Call::Open(CLOSED_JOB);
+    let mut rows = vec![time_call("open", open, alone, Sort::Mixed, 0)];
+    for (name, call) in [("commit", commit), ("abort", abort)] {
+        rows.extend(ENTRIES.map(|entries| time_call(name, call, alone, Sort::Mixed, entries)));
     }
+    let all = |sort| time_call("abort", abort, together, sort, 1_024);
+    rows.extend(Sort::OF_TOGETHER.map(all));
     rows
 }
 
 /// One call on full tables of which the idle job has so many entries.
-fn time_call(name: &str, call: Call, entries: usize) -> Row {
-    let packs: Vec<World> = (0..PACKS)
-        .map(|seed| {
-            let mut pack = Sort::Mixed.pack(seed);
-            employ_idle_job(&mut pack, entries);
-            pack
-        })
-        .collect();
-    best_of(name.to_string(), CALL_ROUNDS, packs.len(), |way| {
+fn time_call(name: &str, call: Call, rule: Rule, sort: Sort, entries: usize) -> Row {
+    let pack = |seed| {
+        let mut pack = sort.pack(rule, seed);
+        employ_idle_job(&mut pack, entries);
+        pack
+    };
+    let packs: Vec<World> = (0..PACKS).map(pack).collect();
+    let on = match rule {
+        Rule::Alone => format!("{entries} entries"),
+        Rule::Together => format!("{entries}, {}", sort.name()),
+    };
+    best_of(named(rule, name, &on), CALL_ROUNDS, packs.len(), |way| {
         let time_one = |pack: &World| {
             let mut world = pack.clone();
             timed(|| assert_eq!(way.call(&mut world, call)[0], 0))
@@ -130,10 +146,11 @@ fn time_call(name: &str, call: Call, entries: usize) -> Row {
     })
 }
 
-fn time_replay(load: Load, tiles: usize) -> Row {
-    let written = journal_for(load, tiles);
+fn time_replay(rule: Rule, load: Load, tiles: usize) -> Row {
+    let written = journal_for(rule, load, tiles);
     let entries = written.end.session.operations;
-    let name = format!("replay: {tiles} tiles, {entries} entries at the end");
+    let on = format!("{tiles} tiles, {entries} entries at the end");
+    let name = named(rule, "replay", &on);
     best_of(name, REPLAY_ROUNDS, 1, |way| {
         let mut world = written.start.clone();
         let all = written.journal.len() as u64;
@@ -143,9 +160,9 @@ fn time_replay(load: Load, tiles: usize) -> Row {
     })
 }
 
-fn journal_for(load: Load, tiles: usize) -> Written {
+fn journal_for(rule: Rule, load: Load, tiles: usize) -> Written {
     let mut random = Random::seeded(5);
     let keys = random.distinct_keys(Vec::new(), 5_000);
     let start = World::with_tiles(keys[..tiles].to_vec());
-    write_full(&mut random, load, start, &keys)
+    write_full(&mut random, rule, load, start, &keys)
 }

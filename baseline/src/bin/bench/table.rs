@@ -1,7 +1,10 @@
 //! The table of times.
 
+use crate::scenes::check_name;
 use crate::ways::{Way, WAYS};
+use baseline::rule::Rule;
 use baseline::soundness::Check;
+use baseline::workload::packs::Sort;
 
 pub struct Row {
     pub name: String,
@@ -22,17 +25,33 @@ impl Row {
 }
 
 pub fn print(rows: &[Row]) {
-    print!("{:44}", "microseconds a call, best round");
+    print!("{:60}", "microseconds a call, best round");
     for way in WAYS {
         print!("{:>10}", way.name());
     }
     println!("{:>16}{:>15}", "proved / filter", "proved / tuned");
     for row in rows {
-        print!("{:44}", row.name);
+        print!("{:60}", row.name);
         for time in row.microseconds {
             print!("{time:>10.2}");
         }
         let (filter, tuned) = (row.ratio_to(Check::Filter), row.ratio_to(Check::Tuned));
         println!("{filter:>16.2}{tuned:>15.2}");
+    }
+}
+
+/// What the second rule's check costs where each tile was replaced, by what the first rule's costs
+/// where as many entries changed their tiles. At most 2 is asked for.
+pub fn print_cost_of_replacing(rows: &[Row]) {
+    let proved = |rule, sort| {
+        let name = check_name(rule, sort);
+        let row = rows.iter().find(|row| row.name == name);
+        row.map_or(f64::NAN, |row| row.of(Way::Proved))
+    };
+    let by_first = proved(Rule::Alone, Sort::Changing);
+    for sort in [Sort::Replaced, Sort::ReplacedApart] {
+        let ratio = proved(Rule::Together, sort) / by_first;
+        let name = sort.name();
+        println!("proved check, rule 2 on \"{name}\" / rule 1 on all changing: {ratio:.2}");
     }
 }

@@ -1,0 +1,109 @@
+//! What the second rule asks of the entries. On a tile that was changed, the last that changed it
+//! says whether it is there, those that changed it alternate between the two kinds, and all behind
+//! the first of them have its job. Each way to decide it answers how many places are reserved: one
+//! for each absent tile that an unfinished delete may bring back, whose last change is that delete.
+
+use crate::entry::{changes_its_tile, job, key, kind, DELETED};
+use crate::soundness::{is_as_left, slot};
+use std::collections::HashMap;
+
+pub fn reserved_by_pairs(tiles: &[u32], entries: &[u64]) -> Option<usize> {
+    let mut reserved = 0;
+    for (at, &change) in entries.iter().enumerate() {
+        if !changes_its_tile(change) {
+            continue;
+        }
+        let later = || entries[at + 1..].iter().filter(|&&e| key(e) == key(change));
+        let next = later().find(|&&e| changes_its_tile(e));
+        let goes_on = match next {
+            Some(&next) => kind(next) != kind(change),
+            None => is_as_left(tiles, change),
+        };
+        if !goes_on || later().any(|&e| job(e) != job(change)) {
+            return None;
+        }
+        reserved += usize::from(next.is_none() && kind(change) == DELETED);
+    }
+    Some(reserved)
+}
+
+pub fn reserved_by_map(tiles: &[u32], entries: &[u64]) -> Option<usize> {
+    let mut last_changes: HashMap<u32, u64> = HashMap::with_capacity(entries.len());
+    for &e in entries {
+        let change = last_changes.get(&key(e));
+        if change.map_or(false, |&change| !goes_on(change, e)) {
+            return None;
+        }
+        if changes_its_tile(e) {
+            last_changes.insert(key(e), e);
+        }
+    }
+    let deletes = last_changes.values().filter(|&&e| kind(e) == DELETED);
+    let are_as_left = last_changes.values().all(|&e| is_as_left(tiles, e));
+    Some(deletes.count()).filter(|_| are_as_left)
+}
+
+/// The good baseline. From the last entry to the first: the nearest later one that decides goes on
+/// from a change, and what is behind that one was looked at before.
+pub fn reserved_by_nearest(tiles: &[u32], entries: &[u64]) -> Option<usize> {
+    let mut nearest = Nearest::new();
+    let mut reserved = 0;
+    for (at, &e) in entries.iter().enumerate().rev() {
+        let later = &entries[nearest.replace(key(e), at).min(entries.len())..];
+        if !changes_its_tile(e) {
+            continue;
+        }
+        match later.iter().find(|&&later| decides(e, later)) {
+            Some(&later) if goes_on(e, later) => {}
+            None if is_as_left(tiles, e) => reserved += usize::from(kind(e) == DELETED),
+            _ => return None,
+        }
+    }
+    Some(reserved)
+}
+
+/// Whether a later entry tells if what follows a change is sound: one that is on its tile, and is
+/// of another job or changed it as well.
+pub fn decides(change: u64, later: u64) -> bool {
+    key(later) == key(change) && (job(later) != job(change) || changes_its_tile(later))
+}
+
+/// Whether a later entry on the tile of a change may stand there.
+pub fn goes_on(change: u64, later: u64) -> bool {
+    job(later) == job(change) && kind(later) != kind(change)
+}
+
+/// The places that the entries of sound tables reserve.
+pub fn reserved_places(entries: &[u64]) -> usize {
+    let mut nearest = Nearest::new();
+    let mut is_reserved = |at: usize| {
+        let own = key(entries[at]);
+        let from = nearest.replace(own, at).min(entries.len());
+        let changes_it = |&e: &u64| key(e) == own && changes_its_tile(e);
+        kind(entries[at]) == DELETED && !entries[from..].iter().any(changes_it)
+    };
+    let changes = (0..entries.len()).filter(|&at| changes_its_tile(entries[at]));
+    changes.rev().filter(|&at| is_reserved(at)).count()
+}
+
+/// For each slot of a hash the place that was put in last: going from the last entry to the first,
+/// no entry before it has a key of that slot.
+struct Nearest {
+    places: [u16; Nearest::SLOTS],
+}
+
+impl Nearest {
+    const SLOTS: usize = 1 << 14;
+
+    fn new() -> Nearest {
+        Nearest {
+            places: [u16::MAX; Nearest::SLOTS],
+        }
+    }
+
+    /// Puts a place in, and answers the one before it: past all others if there was none.
+    fn replace(&mut self, key: u32, at: usize) -> usize {
+        let place = &mut self.places[slot(key) % Nearest::SLOTS];
+        usize::from(std::mem::replace(place, at as u16))
+    }
+}
