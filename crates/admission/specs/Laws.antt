@@ -1,6 +1,6 @@
 -- What the tables of a sound world are, and what each verdict rests on
 use mathlib.Core.Bool.{Bool, _&&_, cond, false, true}
-use mathlib.Core.List.{map}
+use mathlib.Core.List.{List, map}
 use mathlib.Core.Option.{Option, none, some}
 use mathlib.Core.Path.{_∙_, _≡_, ap, refl, subst, sym}
 use Prim.Native.Nat.{_+_, _≤_, ℕ}
@@ -8,21 +8,28 @@ use native.Mathlib.Omega.{arith}
 use lib.Dec.{eqb}
 use lib.ListN.{length, length-map}
 use lib.Seq.{length-take-le}
-use Rattle.entries.specs.Table.{EntryTable}
+use Rattle.entries.specs.Laws.{reserved-three}
+use Rattle.entries.specs.Table.{EntryTable, countThree}
 use Rattle.service.specs.Admission.{State, ruleOf}
 use Rattle.service.specs.Entry.{opIn}
 use Rattle.service.specs.Laws.Storing.{padded-zeros}
 use Rattle.service.specs.Sound.{Tabled}
 use Rattle.service.specs.World.{World, state, usedOperations, usedTiles}
-use Rattle.strict.specs.Book.{besides, counted, heldBy, needsPlace, spokenFor}
+use Rattle.strict.specs.Book.{besides, counted, heldBy, needsPlace, reserved, spokenFor}
+use Rattle.strict.specs.Laws.Counted.{counted-few}
 use Rattle.strict.specs.Laws.Room.{room-either}
-use Rattle.strict.specs.Operations.{begun}
+use Rattle.strict.specs.Operations.{Op, begun}
+use Rattle.strict.specs.Strict.{Rule, alone, together}
 use Rattle.strict.specs.declared.Procedure.{Procedure}
 use Rattle.tiles.specs.Laws.{zeros-table}
 use Rattle.tiles.specs.Table.{TileTable}
 use Rattle.admission.specs.Verdicts.{byHolder, verdictOf}
 use Rattle.admission.specs.declared.Verdict.the-variants.{Admitted, Held, NoOperationRoom, NoTileRoom}
 use Rattle.admission.specs.declared.Verdict.{Verdict}
+
+besides-few : (r : Rule) (t : List ℕ) (us : List Op) → besides r t us ≤ reserved us
+besides-few alone t us = omega arith
+besides-few together t us = counted-few t us
 
 module _ (w : World) (o : Tabled w) where
   pub tile-table : TileTable (w .tiles) (w .session .tiles)
@@ -41,6 +48,10 @@ module _ (w : World) (o : Tabled w) where
   pub spoken-for : spokenFor (ruleOf (w .session .rule)) (state w .book)
       ≡ w .session .tiles + besides (ruleOf (w .session .rule)) (usedTiles w) (map opIn (usedOperations w))
   spoken-for = ap (λ n. n + besides (ruleOf (w .session .rule)) (usedTiles w) (map opIn (usedOperations w))) tiles-count
+
+  -- by either rule no more than the tiles and the entries of kind 3
+  pub few-spoken : spokenFor (ruleOf (w .session .rule)) (state w .book) ≤ w .session .tiles + countThree (usedOperations w)
+  few-spoken = omega (arith, spoken-for, besides-few (ruleOf (w .session .rule)) (usedTiles w) (map opIn (usedOperations w)), reserved-three (usedOperations w))
 
   -- there is room for the tiles with those that are counted, whichever the rule
   pub room-there : length (usedTiles w) + counted (usedTiles w) (map opIn (usedOperations w)) ≤ length (w .tiles)
