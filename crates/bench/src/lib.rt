@@ -1,4 +1,6 @@
 // The soundness check and the public calls for the program of baseline/ to link: a session comes and goes in its parts, and a reply goes as numbers.
+use rectangles::Change;
+use rectangles::Rectangle;
 use service::Address;
 use service::Outcome;
 use service::Rule;
@@ -122,6 +124,50 @@ pub extern "C" fn bench_operation(
         job,
         procedure_of(procedure),
         address,
+    );
+    give(outcome, marks, parts, reply);
+}
+
+// What is done to each tile of a rectangle, by a number: 2 for delete, and insert for all others.
+fn change_of(number: u8) -> Change {
+    match number {
+        2 => Change::Delete,
+        _ => Change::Insert,
+    }
+}
+
+#[no_mangle]
+pub extern "C" fn bench_rectangle(
+    marks: &mut [bool; 64],
+    parts: &mut [usize; 4],
+    tiles: &mut [u32],
+    operations: &mut [u64],
+    journal: &mut [u8],
+    job: u8,
+    change: u8,
+    zoom: u8,
+    west: i32,
+    east: i32,
+    top: i32,
+    bottom: i32,
+    reply: &mut [u64; 4],
+) {
+    let session = session_of(marks, parts);
+    let sheet = Rectangle {
+        zoom,
+        west,
+        east,
+        top,
+        bottom,
+    };
+    let outcome = sanbirogu::rectangle(
+        session,
+        tiles,
+        operations,
+        journal,
+        job,
+        change_of(change),
+        sheet,
     );
     give(outcome, marks, parts, reply);
 }

@@ -1,5 +1,7 @@
 // Tries the rules by hand: reads commands from standard input, one to a line, and answers each. docs/CONSOLE.md has the answers.
 ghost use Rattle.console.specs.Lent.{Lent};
+use rectangles::Change;
+use rectangles::Rectangle;
 use script::Command;
 use script::Word;
 use service::Address;
@@ -65,6 +67,16 @@ fn operation_address(command: Command) -> Address {
     }
 }
 
+fn rectangle_of(command: Command) -> Rectangle {
+    Rectangle {
+        zoom: (command.values[1] % 256) as u8,
+        west: signed(command.values[2], command.negative[2]),
+        east: signed(command.values[3], command.negative[3]),
+        top: signed(command.values[4], command.negative[4]),
+        bottom: signed(command.values[5], command.negative[5]),
+    }
+}
+
 fn lone_address(command: Command) -> Address {
     Address {
         zoom: (command.values[0] % 256) as u8,
@@ -110,6 +122,18 @@ fn print_reply(reply: Reply) {
 fn answered(outcome: Outcome) -> Session {
     let reply = outcome.reply;
     print_reply(reply);
+    let session = outcome.session;
+    session
+}
+
+// A rectangle has no answer.
+fn answered_whole(outcome: Outcome) -> Session {
+    let reply = outcome.reply;
+    print(b"reply ");
+    print_number(decisions::number(reply) as u64);
+    print(b" holder ");
+    print_number(decisions::holder(reply) as u64);
+    print(b"\n");
     let session = outcome.session;
     session
 }
@@ -346,6 +370,19 @@ fn operate(
     answered(sanbirogu::operation(session, tiles, operations, journal, job, procedure, address))
 }
 
+fn operate_all(
+    change: Change,
+    command: Command,
+    session: Session,
+    tiles: &mut [u32],
+    operations: &mut [u64],
+    journal: &mut [u8],
+) -> Session {
+    let job = job_of(command);
+    let r = rectangle_of(command);
+    answered_whole(sanbirogu::rectangle(session, tiles, operations, journal, job, change, r))
+}
+
 // The commands that leave the session as it is.
 fn look(
     command: Command,
@@ -382,6 +419,8 @@ fn answer(
         Word::Ins => operate(Procedure::Ins, command, session, tiles, operations, journal),
         Word::Del => operate(Procedure::Del, command, session, tiles, operations, journal),
         Word::Mem => operate(Procedure::Mem, command, session, tiles, operations, journal),
+        Word::InsAll => operate_all(Change::Insert, command, session, tiles, operations, journal),
+        Word::DelAll => operate_all(Change::Delete, command, session, tiles, operations, journal),
         Word::Commit => answered(sanbirogu::commit(session, tiles, operations, journal, job)),
         Word::Abort => answered(sanbirogu::abort(session, tiles, operations, journal, job)),
         _ => look(command, session, tiles, operations, journal),

@@ -98,7 +98,7 @@ module _ (w : World) (job : ℕ) (p : Procedure) (k : ℕ) where
   judges-perform h n = (rw (h .0, h .1, h .2, n), refl)
 
 -- what a list with a number for each refusal decides, it decides whatever follows it
-gate-refuses : (rs : List Refusal) (t u : Told) → eqb (t .number) 0 ≡ true → eqb (decided rs t .number) 0 ≡ false → decided rs t ≡ decided rs u
+pub gate-refuses : (rs : List Refusal) (t u : Told) → eqb (t .number) 0 ≡ true → eqb (decided rs t .number) 0 ≡ false → decided rs t ≡ decided rs u
 gate-refuses [] t u z n = never (sym z ∙ n)
 gate-refuses (r ∷ rs) t u z n = go (r .applies) n (gate-refuses rs t u z)
   where

@@ -35,6 +35,7 @@ pub fn number(reply: Reply) -> u8
         Reply::NoTileRoom => 7,
         Reply::NoOperationRoom => 8,
         Reply::NoJournalRoom => 9,
+        Reply::Misshapen => 13,
     }
 }
 
@@ -53,6 +54,7 @@ pub fn answer(reply: Reply) -> u8
         Reply::NoTileRoom => 0,
         Reply::NoOperationRoom => 0,
         Reply::NoJournalRoom => 0,
+        Reply::Misshapen => 0,
     }
 }
 
@@ -71,6 +73,7 @@ pub fn holder(reply: Reply) -> u8
         Reply::NoTileRoom => 0,
         Reply::NoOperationRoom => 0,
         Reply::NoJournalRoom => 0,
+        Reply::Misshapen => 0,
     }
 }
 

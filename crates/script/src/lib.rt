@@ -9,6 +9,8 @@ pub enum Word {
     Ins,
     Del,
     Mem,
+    InsAll,
+    DelAll,
     Commit,
     Abort,
     Address,
@@ -31,8 +33,8 @@ pub enum Word {
 pub struct Command {
     pub word: Word,
     pub count: usize,
-    pub values: [u64; 4],
-    pub negative: [bool; 4],
+    pub values: [u64; 6],
+    pub negative: [bool; 6],
 }
 
 // A number, or none.
@@ -110,6 +112,12 @@ fn procedure_word(line: &[u8], end: usize) -> Word {
     if is_word(line, end, b"mem") {
         return Word::Mem;
     }
+    if is_word(line, end, b"insall") {
+        return Word::InsAll;
+    }
+    if is_word(line, end, b"delall") {
+        return Word::DelAll;
+    }
     change_word(line, end)
 }
 
@@ -143,30 +151,32 @@ fn change_word(line: &[u8], end: usize) -> Word {
 }
 
 // The types of a word's numbers: a count or a key up to 2^32 - 1, a byte, a signed number, an entry up to 2^64 - 1, or none.
-fn types_of(word: Word) -> [u8; 4] {
+fn types_of(word: Word) -> [u8; 6] {
     match word {
-        Word::Lend => [b'n', b'n', b'n', b'-'],
-        Word::Start => [b'n', b'b', b'-', b'-'],
-        Word::Open => [b'b', b'-', b'-', b'-'],
-        Word::Ins => [b'b', b'b', b's', b's'],
-        Word::Del => [b'b', b'b', b's', b's'],
-        Word::Mem => [b'b', b'b', b's', b's'],
-        Word::Commit => [b'b', b'-', b'-', b'-'],
-        Word::Abort => [b'b', b'-', b'-', b'-'],
-        Word::Address => [b'b', b's', b's', b'-'],
-        Word::Read => [b'n', b'-', b'-', b'-'],
-        Word::Replay => [b'n', b'n', b'-', b'-'],
-        Word::Sum => [b'-', b'-', b'-', b'-'],
-        Word::Show => [b'-', b'-', b'-', b'-'],
-        Word::Tile => [b'n', b'n', b'-', b'-'],
-        Word::Entry => [b'n', b'e', b'-', b'-'],
-        Word::Byte => [b'n', b'b', b'-', b'-'],
-        Word::Tiles => [b'n', b'-', b'-', b'-'],
-        Word::Operations => [b'n', b'-', b'-', b'-'],
-        Word::Journal => [b'n', b'-', b'-', b'-'],
-        Word::Mark => [b'b', b'b', b'-', b'-'],
-        Word::Rule => [b'b', b'-', b'-', b'-'],
-        Word::Unknown => [b'-', b'-', b'-', b'-'],
+        Word::Lend => [b'n', b'n', b'n', b'-', b'-', b'-'],
+        Word::Start => [b'n', b'b', b'-', b'-', b'-', b'-'],
+        Word::Open => [b'b', b'-', b'-', b'-', b'-', b'-'],
+        Word::Ins => [b'b', b'b', b's', b's', b'-', b'-'],
+        Word::Del => [b'b', b'b', b's', b's', b'-', b'-'],
+        Word::Mem => [b'b', b'b', b's', b's', b'-', b'-'],
+        Word::InsAll => [b'b', b'b', b's', b's', b's', b's'],
+        Word::DelAll => [b'b', b'b', b's', b's', b's', b's'],
+        Word::Commit => [b'b', b'-', b'-', b'-', b'-', b'-'],
+        Word::Abort => [b'b', b'-', b'-', b'-', b'-', b'-'],
+        Word::Address => [b'b', b's', b's', b'-', b'-', b'-'],
+        Word::Read => [b'n', b'-', b'-', b'-', b'-', b'-'],
+        Word::Replay => [b'n', b'n', b'-', b'-', b'-', b'-'],
+        Word::Sum => [b'-', b'-', b'-', b'-', b'-', b'-'],
+        Word::Show => [b'-', b'-', b'-', b'-', b'-', b'-'],
+        Word::Tile => [b'n', b'n', b'-', b'-', b'-', b'-'],
+        Word::Entry => [b'n', b'e', b'-', b'-', b'-', b'-'],
+        Word::Byte => [b'n', b'b', b'-', b'-', b'-', b'-'],
+        Word::Tiles => [b'n', b'-', b'-', b'-', b'-', b'-'],
+        Word::Operations => [b'n', b'-', b'-', b'-', b'-', b'-'],
+        Word::Journal => [b'n', b'-', b'-', b'-', b'-', b'-'],
+        Word::Mark => [b'b', b'b', b'-', b'-', b'-', b'-'],
+        Word::Rule => [b'b', b'-', b'-', b'-', b'-', b'-'],
+        Word::Unknown => [b'-', b'-', b'-', b'-', b'-', b'-'],
     }
 }
 
@@ -185,8 +195,8 @@ fn is_of(kind: u8, value: u64, negative: bool) -> bool {
 }
 
 // Whether the number at a place is of the type that stands there; where there is no number, that there is no type.
-fn fits_at(command: Command, types: [u8; 4], i: usize) -> bool {
-    if 4 <= i {
+fn fits_at(command: Command, types: [u8; 6], i: usize) -> bool {
+    if 6 <= i {
         return false;
     }
     if command.count <= i {
@@ -200,7 +210,7 @@ fn is_whole(command: Command) -> bool {
     let word = command.word;
     let types = types_of(word);
     let mut i: usize = 0;
-    while i < 4 {
+    while i < 6 {
         if !fits_at(command, types, i) {
             return false;
         }
@@ -305,15 +315,15 @@ fn alone(word: Word) -> Command {
     Command {
         word,
         count: 0,
-        values: [0; 4],
-        negative: [false; 4],
+        values: [0; 6],
+        negative: [false; 6],
     }
 }
 
-// A command with one more number. None has five.
+// A command with one more number. None has seven.
 fn with_number(command: Command, value: u64, negative: bool) -> Command {
     let count = command.count;
-    if 4 <= count {
+    if 6 <= count {
         return alone(Word::Unknown);
     }
     let mut longer = command;

@@ -1,0 +1,129 @@
+-- `placing::lacking` meets its contract: each room by its count
+use mathlib.Core.Path.{_∙_, _≡_, ap, sym}
+use Prim.Native.Nat.{_+_, _<_, _≤_}
+use native.Mathlib.Omega.{arith}
+use lib.ListN.{length}
+use borrow.Author.Needs.{needs}
+use denote.Ref.{now}
+use Rattle.admission.specs.Laws.{operations-count, spoken-for, tile-table}
+use Rattle.service.specs.World.{World, state, world}
+use Rattle.rectangles.specs.Rectangles.{ruledBy}
+use Rattle.strict.specs.Book.{spokenFor}
+use Rattle.placing.proofs.lacking.Statement.{statement}
+use Rattle.placing.proofs.lacking.Tie as tie
+use Rattle.placing.specs.Laws.Carrying.{no-bytes, no-places, no-slots, room-enough}
+
+-- what the function was given
+abbrev given : tie.After-count-besides → World
+given c =
+    let a = c .before .before .before .before .args in
+    world (a .session) (now (a .tiles)) (now (a .operations)) (now (a .journal))
+
+record Known (c : tie.After-count-besides) : Type 0 where
+  spoken : spokenFor (ruledBy (given c)) (state (given c) .book) ≡ given c .session .tiles + c .count-besides .result
+  used : length (state (given c) .book .table) ≡ given c .session .operations
+  room : given c .session .tiles + c .count-besides .result ≤ length (given c .tiles)
+  few : length (given c .tiles) ≤ 4096
+  written : given c .session .journal ≤ length (given c .journal)
+
+known : (c : tie.After-count-besides) → Known c
+known c =
+    let o = c .before .before .before .before .pre .0 in
+    let t = o .tables in
+    let e = spoken-for (given c) t ∙ ap (λ n. given c .session .tiles + n) (sym (c .count-besides .ensures .0)) in
+    record {
+      spoken = e;
+      used = operations-count (given c) t;
+      room = omega (arith, t .room, e);
+      few = t .few-tiles;
+      written = o .journal-fits;
+    }
+
+count-besides-requires : tie.Need-count-besides-requires
+count-besides-requires c κs =
+    let s = c .before .before .before in
+    let t = s .pre .0 .tables in
+    let few : s .args .session .operations ≤ 1024 = omega (arith, t .operations-fit, t .few-operations) in
+    (tile-table (world (s .args .session) (now (s .args .tiles)) (now (s .args .operations)) (now (s .args .journal))) t, t .operations-fit, few)
+
+add-if1 : tie.Need-add-if1
+add-if1 c = let k = known c in omega arith
+
+add-if1-2 : tie.Need-add-if1-2
+add-if1-2 c = let k = known c in omega arith
+
+short : (c : tie.Then1) → let w = given (c .before) in length (w .tiles) < spokenFor (ruledBy w) (state w .book) + c .before .before .before .before .before .args .need
+short c = let k = known (c .before) in omega arith
+
+enough : (c : tie.Else1) → let w = given (c .before) in spokenFor (ruledBy w) (state w .book) + c .before .before .before .before .before .args .need ≤ length (w .tiles)
+enough c = let k = known (c .before) in omega arith
+
+returns : tie.Need-returns
+returns c = let w = given (c .before) in let a = c .before .before .before .before .before .args in no-places w (a .need) (a .n) (short c)
+
+add-if2 : tie.Need-add-if2
+add-if2 c = search needs
+
+returns-2 : tie.Need-returns-2
+returns-2 c =
+    let b = c .before .before in
+    let w = given b in
+    let a = b .before .before .before .before .args in
+    let k = known b in
+    no-slots w (a .need) (a .n) (enough (c .before)) (omega arith)
+
+sub-if3 : tie.Need-sub-if3
+sub-if3 c = search needs
+
+mul-if3 : tie.Need-mul-if3
+mul-if3 c = search needs
+
+open-jobs-requires : tie.Need-open-jobs-requires
+open-jobs-requires c κs = search needs
+
+mul-if3-2 : tie.Need-mul-if3-2
+mul-if3-2 c = search needs
+
+add-if3 : tie.Need-add-if3
+add-if3 c = search needs
+
+slots-enough : (c : tie.Else2) →
+    let w = given (c .before .before) in
+    length (state w .book .table) + c .before .before .before .before .before .before .args .n ≤ length (w .operations)
+slots-enough c = let k = known (c .before .before) in omega arith
+
+returns-3 : tie.Need-returns-3
+returns-3 c =
+    let e = c .before .before in
+    let b = e .before .before in
+    let w = given b in
+    let a = b .before .before .before .before .args in
+    let jobs = c .before .open-jobs .ensures .0 in
+    no-bytes w (a .need) (a .n) (enough (e .before)) (slots-enough e) (omega arith)
+
+returns-4 : tie.Need-returns-4
+returns-4 c =
+    let e = c .before .before in
+    let b = e .before .before in
+    let w = given b in
+    let a = b .before .before .before .before .args in
+    let jobs = c .before .open-jobs .ensures .0 in
+    room-enough w (a .need) (a .n) (enough (e .before)) (slots-enough e) (omega arith)
+
+pub lacking-spec : {M : Type 1} → statement M
+lacking-spec =
+    tie.close
+    (tie.spec
+    count-besides-requires
+    add-if1
+    add-if1-2
+    returns
+    add-if2
+    returns-2
+    sub-if3
+    mul-if3
+    open-jobs-requires
+    mul-if3-2
+    add-if3
+    returns-3
+    returns-4)

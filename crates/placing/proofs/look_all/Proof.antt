@@ -1,0 +1,94 @@
+-- `placing::look_all` meets its contract: what is left at each turn, with what was counted, is what there was at the first
+use mathlib.Core.List.{[]}
+use mathlib.Core.Path.{_≡_}
+use Prim.Native.Nat.{_+_, _-_, _≤_}
+use native.Mathlib.Omega.{arith}
+use lib.ListN.{take}
+use lib.Seq.{slice}
+use borrow.Author.Needs.{needs}
+use denote.Ref.{now}
+use Rattle.lists.specs.Truth.{oneIf}
+use Rattle.service.specs.Admission.{ruleOf}
+use Rattle.service.specs.World.{state, world}
+use Rattle.placing.proofs.look_all.Statement.{statement}
+use Rattle.placing.proofs.look_all.Tie as tie
+use Rattle.placing.specs.Laws.Looking.{Left, left-held, left-more, left-over, left-start, one-more, seen-so}
+
+abbrev Inv-loop : tie.InvT-loop
+Inv-loop session tiles operations job procedure keys n need₀ i₀ need i =
+    (i ≤ n) × (need ≤ i) × Left (ruleOf (session .rule)) (state (world session tiles operations []) .book) job procedure (take n keys) need (slice i n keys)
+
+abbrev μ-loop : tie.MeasureT-loop
+μ-loop session tiles operations job procedure keys n need₀ i₀ need i = n - i
+
+loop-holds : tie.Need-loop-holds Inv-loop μ-loop
+loop-holds c = (omega arith, omega arith, left-start _ _ _ _ _)
+
+mul-look-at : tie.Need-mul-look-at Inv-loop μ-loop
+mul-look-at c = omega arith
+
+shared-slice-read-look-at : tie.Need-shared-slice-read-look-at Inv-loop μ-loop
+shared-slice-read-look-at c = omega arith
+
+look-at-requires : tie.Need-look-at-requires Inv-loop μ-loop
+look-at-requires c κs = c .before .before .before .before .before .before .pre .0
+
+enum-known-holder : tie.Need-enum-known-holder Inv-loop μ-loop
+enum-known-holder c = search needs
+
+returns : tie.Need-returns Inv-loop μ-loop
+returns c =
+    let l = c .before .before .before .before .before .before .loop in
+    let s = c .before .before .before .before .before .before .before .before .before .before in
+    left-held (now (s .args .keys)) (s .args .n) (l .i) (l .inv .2) (s .pre .1) (omega arith) _
+    (seen-so _ _ _ _ _ _ _ (c .before .before .before .look-at .ensures) (c .before .holder .given .1))
+
+enum-known-needs : tie.Need-enum-known-needs Inv-loop μ-loop
+enum-known-needs c = search needs
+
+more-requires : tie.Need-more-requires Inv-loop μ-loop
+more-requires c κs = omega arith
+
+add-i : tie.Need-add-i Inv-loop μ-loop
+add-i c = omega arith
+
+loop-less : tie.Need-loop-less Inv-loop μ-loop
+loop-less c = omega arith
+
+loop-again : tie.Need-loop-again Inv-loop μ-loop
+loop-again c =
+    let l = c .before .before .before .before .before .before .before .loop in
+    let s = c .before .before .before .before .before .before .before .before .before .before .before in
+    let needs = c .before .before .needs .given .0 .0 in
+    let more : c .more .result ≡ l .need + oneIf needs = c .more .ensures in
+    let small = one-more needs in (
+      omega arith,
+      omega arith,
+      left-more (now (s .args .keys)) (s .args .n) (l .i) (l .inv .2) (s .pre .1) (omega arith) needs _
+          (seen-so _ _ _ _ _ _ _ (c .before .before .before .before .look-at .ensures) (c .before .before .needs .given .1)) more,
+    )
+
+returns-2 : tie.Need-returns-2 Inv-loop μ-loop
+returns-2 c =
+    let l = c .before .loop in
+    let s = c .before .before .before .before .before in
+    left-over (now (s .args .keys)) (s .args .n) (l .i) (l .inv .2) (omega arith)
+
+pub look-all-spec : {M : Type 1} → statement M
+look-all-spec =
+    tie.close
+    (tie.spec
+    Inv-loop
+    μ-loop
+    loop-holds
+    mul-look-at
+    shared-slice-read-look-at
+    look-at-requires
+    enum-known-holder
+    returns
+    enum-known-needs
+    more-requires
+    add-i
+    loop-less
+    loop-again
+    returns-2)

@@ -1,0 +1,4 @@
+-- The proofs behind the passes
+pub mod Looking
+pub mod Carrying
+pub mod Calling

@@ -1,0 +1,89 @@
+-- From the gate and the shape of a rectangle to what the call promises
+use mathlib.Core.Bool.{cond, false, true}
+use mathlib.Core.List.{List, _∷_}
+use mathlib.Core.Path.{_∙_, _≡_, ap, ap₂, refl, subst, sym}
+use Prim.Native.Nat.{_≤_, ℕ}
+use lib.Dec.{eqb}
+use lib.ListN.{length, take}
+use borrow.Author.Tests.{eqb-true, le-ltb, ltb-false, not-false}
+use Rattle.lists.specs.Lists.{All}
+use Rattle.strict.specs.declared.Procedure.{Procedure}
+use Rattle.service.specs.Calls.{endRefusals}
+use Rattle.service.specs.History.{committing}
+use Rattle.service.specs.Laws.Accepting.{decided-done, numbered}
+use Rattle.service.specs.Laws.Standing.{unrefused}
+use Rattle.service.specs.Tile.{isKey}
+use Rattle.service.specs.Told.{Refusal, Told, bare, decided, done, refuse}
+use Rattle.service.specs.World.{Reported, World}
+use Rattle.decisions.specs.Laws.{decided-append, gate-refuses}
+use Rattle.rectangles.specs.Claims.{Apart, Ready, Shaped}
+use Rattle.rectangles.specs.Laws.Tiles.{all-apart}
+use Rattle.rectangles.specs.Rectangles.{carriedAll, keys, listRefusals, listed, misshapen, outOfRange, procedureFor, rectangleCall, rectangleRefusals}
+use Rattle.rectangles.specs.declared.Change.{Change}
+use Rattle.rectangles.specs.declared.Rectangle.{Rectangle}
+use Rattle.shapes.specs.Laws.Listed.{all-valid, shape-few}
+use Rattle.placing.specs.Passes.{Asks, Carries, listAfter, listCall}
+
+-- the list as it was written
+pub asks-carries : (w : World) (job : ℕ) (r : Rectangle) (corner height n : ℕ) → Asks w job r corner height n → (l : List ℕ) → n ≤ length l → take n l ≡ keys (listed r)
+    → Carries w job l n
+asks-carries w job r corner height n a l fits is =
+    record {
+      ready = a .ready;
+      few = shape-few r corner height n (a .shape);
+      fits-list = fits;
+      valid = subst (All (λ k. isKey k ≡ true)) (sym is) (all-valid r (a .shape .0));
+      apart = subst Apart (sym is) (all-apart r (a .shape .0));
+    }
+
+-- THE GATE: 1, 2 and 3
+module _ (w : World) (job : ℕ) (t : Told) (gate : t ≡ decided (endRefusals w job) (done false)) where
+  pub gate-ready : eqb (t .number) 0 ≡ true → Ready w job
+  gate-ready zero =
+      let h = unrefused (endRefusals w job)
+      (decided-done (endRefusals w job) (done false) (numbered w (committing job)) (ap (λ (x : Told). x .number) (sym gate) ∙ eqb-true (t .number) 0 zero)) in
+      record { is-sound-there = not-false _ (h .0); small = ltb-false 63 job (h .1 .0); is-open = not-false _ (h .1 .1 .0) }
+
+module _ (w : World) (job : ℕ) (change : Change) (r : Rectangle) where
+  abbrev p : Procedure
+  p = procedureFor change
+
+  abbrev ks : List ℕ
+  ks = keys (listed r)
+
+  -- 5 and 13, and those of the list
+  abbrev later : List Refusal
+  later = refuse 5 (outOfRange r) ∷ refuse 13 (misshapen r) ∷ listRefusals w job p ks
+
+  call-is : rectangleCall w job change r ≡ listAfter w job p ks (decided (rectangleRefusals w job p r) (bare 0))
+  unfolding rectangleCall
+  call-is = refl
+
+  pub gate-told : (t : Told) → t ≡ decided (endRefusals w job) (done false) → eqb (t .number) 0 ≡ false → record { told = t; after = w } ≡ rectangleCall w job change r
+  gate-told t gate f =
+      let whole : t ≡ decided (rectangleRefusals w job p r) (bare 0) =
+      gate
+      ∙ gate-refuses (endRefusals w job) (done false) (decided later (bare 0)) refl (ap (λ (x : Told). eqb (x .number) 0) (sym gate) ∙ f)
+      ∙ sym (decided-append (endRefusals w job) later (bare 0)) in
+      ap {B = Reported} (λ b. record { told = t; after = cond b (carriedAll w job p ks) w }) (sym f) ∙ ap (listAfter w job p ks) whole ∙ sym call-is
+
+  module _ (ready : Ready w job) where
+    past-gate : decided (rectangleRefusals w job p r) (bare 0) ≡ decided later (bare 0)
+    past-gate = rw (ready .is-sound-there, le-ltb 63 job (ready .small), ready .is-open)
+
+    pub tells-five : outOfRange r ≡ true → record { told = bare 5; after = w } ≡ rectangleCall w job change r
+    tells-five e =
+        let t : bare 5 ≡ decided (rectangleRefusals w job p r) (bare 0) = sym (past-gate ∙ rw e) in
+        ap (listAfter w job p ks) t ∙ sym call-is
+
+    pub tells-thirteen : (outOfRange r ≡ false) × (misshapen r ≡ true) → record { told = bare 13; after = w } ≡ rectangleCall w job change r
+    tells-thirteen e =
+        let t : bare 13 ≡ decided (rectangleRefusals w job p r) (bare 0) = sym (past-gate ∙ rw (e .0, e .1)) in
+        ap (listAfter w job p ks) t ∙ sym call-is
+
+    pub tells-list : Shaped r → listCall w job p ks ≡ rectangleCall w job change r
+    unfolding listCall
+    tells-list s =
+        let t : decided (listRefusals w job p ks) (bare 0) ≡ decided (rectangleRefusals w job p r) (bare 0) =
+        sym (past-gate ∙ ap₂ (λ a b. decided (refuse 5 a ∷ refuse 13 b ∷ listRefusals w job p ks) (bare 0)) (s .in-range) (s .well-formed)) in
+        ap (listAfter w job p ks) t ∙ sym call-is

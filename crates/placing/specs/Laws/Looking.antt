@@ -1,0 +1,108 @@
+-- From turn to turn of the pass that decides
+use mathlib.Core.Bool.{Bool, false, true}
+use mathlib.Core.List.{List, [], _∷_}
+use mathlib.Core.Option.{Option, none, some}
+use mathlib.Core.Path.{_∙_, _≡_, ap, refl, subst, sym}
+use Prim.Native.Nat.{_+_, _<_, _≤_, ℕ}
+use native.Mathlib.Omega.{arith}
+use lib.ListN.{getD, length}
+use lib.Seq.{slice}
+use Rattle.lists.specs.Lists.{slice-end, slice-next}
+use Rattle.lists.specs.Truth.{oneIf}
+use Rattle.strict.specs.Book.{Book, heldBy, needsPlace}
+use Rattle.strict.specs.Operations.{begun}
+use Rattle.strict.specs.Strict.{Rule}
+use Rattle.strict.specs.declared.Procedure.{Procedure}
+use Rattle.rectangles.specs.Rectangles.{firstHeld, firstOf, needed}
+use Rattle.placing.specs.Passes.{listBy, listOf, lookBy, lookOf}
+use Rattle.placing.specs.declared.Seen.{Seen}
+use Rattle.placing.specs.declared.Seen.the-variants as look
+use Rattle.placing.specs.declared.Found.{Found}
+use Rattle.placing.specs.declared.Found.the-variants as found
+
+-- what one look means
+abbrev pub Sees : Rule → Book → ℕ → Procedure → ℕ → Seen → Type 0
+Sees b m job p k (look.Held by) = heldBy b m job p k ≡ some by
+Sees b m job p k (look.Free needs) = (heldBy b m job p k ≡ none) × (needsPlace b (m .table) (begun job p k (m .tiles)) ≡ needs)
+
+module _ (b : Rule) (m : Book) (job : ℕ) (p : Procedure) (k : ℕ) where
+  pub held : (by : ℕ) → heldBy b m job p k ≡ some by → look.Held by ≡ lookOf b m job p k
+  unfolding lookOf
+  held by h = rw h
+
+  pub free : (needs : Bool) → heldBy b m job p k ≡ none → needsPlace b (m .table) (begun job p k (m .tiles)) ≡ needs → look.Free needs ≡ lookOf b m job p k
+  unfolding lookOf
+  free needs h e = rw (h, e)
+
+  sees : Sees b m job p k (lookOf b m job p k)
+  unfolding lookOf
+  sees = go (heldBy b m job p k) refl
+    where
+      go : (o : Option ℕ) → heldBy b m job p k ≡ o → Sees b m job p k (lookBy o (look.Free (needsPlace b (m .table) (begun job p k (m .tiles)))))
+      go (some by) e = e
+      go none e = (e, refl)
+
+  pub seen-so : (v u : Seen) → v ≡ lookOf b m job p k → v ≡ u → Sees b m job p k u
+  seen-so v u is seen = subst (Sees b m job p k) (sym is ∙ seen) sees
+
+pub one-more : (b : Bool) → oneIf b ≤ 1
+one-more true = omega arith
+one-more false = omega arith
+
+pub counts : (need : ℕ) (b : Bool) → b ≡ true → need + 1 ≡ need + oneIf b
+counts need b e = rw e
+
+pub counts-not : (need : ℕ) (b : Bool) → b ≡ false → need ≡ need + oneIf b
+counts-not need b e = rw e (omega arith)
+
+-- ks₀ has what ks has, and `need` tiles before it that need a place
+pub record Left (b : Rule) (m : Book) (job : ℕ) (p : Procedure) (ks₀ : List ℕ) (need : ℕ) (ks : List ℕ) : Type 0 where
+  pub held-left : firstHeld b m job p ks₀ ≡ firstHeld b m job p ks
+  pub need-left : needed b m job p ks₀ ≡ need + needed b m job p ks
+
+pub left-start : (b : Rule) (m : Book) (job : ℕ) (p : Procedure) (ks : List ℕ) → Left b m job p ks 0 ks
+left-start b m job p ks = record { held-left = refl; need-left = omega arith }
+
+module _ {b : Rule} {m : Book} {job : ℕ} {p : Procedure} {ks₀ : List ℕ} {need : ℕ} (l : List ℕ) (n i : ℕ) (a : Left b m job p ks₀ need (slice i n l)) where
+  module _ (fits : n ≤ length l) (inside : i < n) where
+    left-next : Left b m job p ks₀ need (getD l i 0 ∷ slice (i + 1) n l)
+    left-next = subst (Left b m job p ks₀ need) (slice-next l n i fits inside) a
+
+    pub left-more : (needs : Bool) (need′ : ℕ) → Sees b m job p (getD l i 0) (look.Free needs) → need′ ≡ need + oneIf needs → Left b m job p ks₀ need′ (slice (i + 1) n l)
+    left-more needs need′ s more =
+        let a = left-next in
+        let h = a .need-left in
+        let e : oneIf (needsPlace b (m .table) (begun job p (getD l i 0) (m .tiles))) ≡ oneIf needs = ap oneIf (s .1) in
+        record { held-left = a .held-left ∙ ap (λ o. firstOf o (firstHeld b m job p (slice (i + 1) n l))) (s .0); need-left = omega arith }
+
+    pub left-held : (by : ℕ) → Sees b m job p (getD l i 0) (look.Held by) → found.Held by ≡ listOf b m job p ks₀
+    unfolding listOf
+    left-held by s =
+        let e : firstHeld b m job p ks₀ ≡ some by = left-next .held-left ∙ ap (λ o. firstOf o (firstHeld b m job p (slice (i + 1) n l))) s in
+        rw e
+
+  pub left-over : n ≤ i → found.Needs need ≡ listOf b m job p ks₀
+  unfolding listOf
+  left-over over =
+      let e : Left b m job p ks₀ need [] = subst (Left b m job p ks₀ need) (slice-end l n i over) a in
+      let h : firstHeld b m job p ks₀ ≡ none = e .held-left in
+      let c : needed b m job p ks₀ ≡ need = e .need-left ∙ omega arith in
+      rw (h, c)
+
+-- what a list finds
+abbrev pub Finds : Rule → Book → ℕ → Procedure → List ℕ → Found → Type 0
+Finds b m job p ks (found.Held by) = firstHeld b m job p ks ≡ some by
+Finds b m job p ks (found.Needs need) = (firstHeld b m job p ks ≡ none) × (needed b m job p ks ≡ need)
+
+pub finds : (b : Rule) (m : Book) (job : ℕ) (p : Procedure) (ks : List ℕ) (v u : Found) → v ≡ listOf b m job p ks → v ≡ u → Finds b m job p ks u
+unfolding listOf
+finds b m job p ks v u is seen = subst (Finds b m job p ks) (sym is ∙ seen) (go (firstHeld b m job p ks) refl)
+  where
+    go : (o : Option ℕ) → firstHeld b m job p ks ≡ o → Finds b m job p ks (listBy o (needed b m job p ks))
+    go (some by) e = e
+    go none e = (e, refl)
+
+-- no more than there are
+pub needed-few : (b : Rule) (m : Book) (job : ℕ) (p : Procedure) (ks : List ℕ) → needed b m job p ks ≤ length ks
+needed-few b m job p [] = omega arith
+needed-few b m job p (k ∷ ks) = let ih = needed-few b m job p ks in let o = one-more (needsPlace b (m .table) (begun job p k (m .tiles))) in omega arith

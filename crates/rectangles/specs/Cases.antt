@@ -1,0 +1,151 @@
+-- Rectangles by hand: what is told and what is left, one statement over one table
+use mathlib.Core.Bool.{false, true}
+use mathlib.Core.List.{List, [], _∷_, map}
+use mathlib.Core.Path.{_≡_, refl}
+use Prim.Native.Nat.{ℕ}
+use lib.IntN.{negsuc, pos, ℤ}
+use Rattle.strict.specs.Commutativity.{entryAt}
+use Rattle.strict.specs.declared.Procedure.the-variants.{Ins}
+use Rattle.service.specs.Calls.{settled, startCall}
+use Rattle.service.specs.Cases.{address, from}
+use Rattle.service.specs.History.{aborting, committing, opening, operating}
+use Rattle.service.specs.Journal.{encode}
+use Rattle.service.specs.Sound.{soundB, tabledB}
+use Rattle.service.specs.Tile.{columnIn, isKey, keyOf, rowIn}
+use Rattle.service.specs.Told.{Told, bare, done}
+use Rattle.service.specs.World.{World, usedTiles}
+use Rattle.service.specs.declared.Rule.{Rule}
+use Rattle.service.specs.declared.Rule.the-variants.{Alone, Together}
+use Rattle.rectangles.specs.Claims.{Move, moved, plain, rectangle}
+use Rattle.rectangles.specs.Rectangles.{keys, listed, misshapen, outOfRange, rectangleCall}
+use Rattle.rectangles.specs.declared.Change.the-variants.{Delete, Insert}
+use Rattle.rectangles.specs.declared.Rectangle.{Rectangle}
+
+abbrev rect : ℕ → ℤ → ℤ → ℤ → ℤ → Rectangle
+rect z west east top bottom = record { zoom = z; west = west; east = east; top = top; bottom = bottom }
+
+-- across 180 degrees: columns 14, 15, 0 and 1 of level 4, rows 5 and 6
+seam-list : map (λ k. columnIn k ∷ rowIn k ∷ []) (keys (listed (rect 4 (negsuc 1) (pos 1) (pos 5) (pos 6))))
+    ≡ (14 ∷ 5 ∷ []) ∷ (14 ∷ 6 ∷ []) ∷ (15 ∷ 5 ∷ []) ∷ (15 ∷ 6 ∷ []) ∷ (0 ∷ 5 ∷ []) ∷ (0 ∷ 6 ∷ []) ∷ (1 ∷ 5 ∷ []) ∷ (1 ∷ 6 ∷ []) ∷ []
+unfolding keyOf
+seam-list = refl
+
+-- 5 and 13, at both sides of each bound
+shapes : map (λ r. outOfRange r ∷ misshapen r ∷ [])
+    (rect 4 (pos 0) (pos 15) (pos 0) (pos 15)
+    ∷ rect 4 (pos 0) (pos 16) (pos 0) (pos 0)
+    ∷ rect 9 (negsuc 127) (pos 127) (pos 3) (pos 3)
+    ∷ rect 9 (negsuc 127) (pos 128) (pos 3) (pos 3)
+    ∷ rect 4 (pos 1) (pos 0) (pos 0) (pos 0)
+    ∷ rect 4 (pos 0) (pos 0) (pos 1) (pos 0)
+    ∷ rect 4 (pos 0) (pos 0) (pos 0) (pos 16)
+    ∷ rect 4 (pos 0) (pos 0) (negsuc 0) (pos 0)
+    ∷ rect 3 (pos 0) (pos 0) (pos 0) (pos 0)
+    ∷ rect 14 (negsuc 2147483647) (pos 2147483647) (pos 0) (pos 0)
+    ∷ [])
+    ≡ (false ∷ false ∷ [])
+    ∷ (false ∷ true ∷ [])
+    ∷ (false ∷ false ∷ [])
+    ∷ (false ∷ true ∷ [])
+    ∷ (false ∷ true ∷ [])
+    ∷ (false ∷ true ∷ [])
+    ∷ (true ∷ false ∷ [])
+    ∷ (true ∷ false ∷ [])
+    ∷ (true ∷ false ∷ [])
+    ∷ (false ∷ true ∷ [])
+    ∷ []
+unfolding keyOf
+shapes = refl
+
+-- PLAYED: by a rule, from tiles in so many places, with so many operation places and journal bytes; what is asked and heard, and the tiles left
+pub record Play : Type 0 where
+  pub by : Rule
+  pub tiles : List ℕ
+  pub places : ℕ
+  pub slots : ℕ
+  pub bytes : ℕ
+  pub asked : List Move
+  pub heard : List Told
+  pub left : List ℕ
+
+abbrev play : Rule → List ℕ → ℕ → ℕ → ℕ → List Move → List Told → List ℕ → Play
+play by tiles places slots bytes asked heard left =
+    record { by = by; tiles = tiles; places = places; slots = slots; bytes = bytes; asked = asked; heard = heard; left = left }
+
+abbrev toldBy : World → List Move → List Told
+toldBy w [] = []
+toldBy w (m ∷ ms) = moved w m .told ∷ toldBy (moved w m .after) ms
+
+abbrev worldAfter : World → List Move → World
+worldAfter w [] = w
+worldAfter w (m ∷ ms) = worldAfter (moved w m .after) ms
+
+-- columns 15 and 0 of level 4, row 5: the tiles across the seam; and another tile, C
+abbrev seam : Rectangle
+seam = rect 4 (negsuc 0) (pos 0) (pos 5) (pos 5)
+
+abbrev A : ℕ
+A = 1073987589
+
+abbrev B : ℕ
+B = 1073741829
+
+abbrev C : ℕ
+C = 1073741824
+
+abbrev opens : List Move
+opens = plain (opening 1) ∷ plain (opening 2) ∷ []
+
+abbrev heldBy1 : Told
+heldBy1 = record { number = 6; answer = 0; holder = 1 }
+
+abbrev insertA : ℕ → Move
+insertA job = plain (operating job Ins (address 4 (negsuc 0) (pos 5)))
+
+abbrev insertB : ℕ → Move
+insertB job = plain (operating job Ins (address 4 (pos 16) (pos 5)))
+
+abbrev insertC : ℕ → Move
+insertC job = plain (operating job Ins (address 4 (pos 16) (pos 0)))
+
+-- where each operation fails alone
+abbrev plays : List Play
+plays =
+    play Alone [] 8 8 99 (rectangle 1 Insert seam ∷ rectangle 1 Insert seam ∷ []) (bare 0 ∷ heldBy1 ∷ []) (B ∷ A ∷ [])
+    ∷ play Alone [] 8 8 99 (rectangle 1 Insert seam ∷ plain (aborting 1) ∷ []) (bare 0 ∷ bare 0 ∷ []) []
+    ∷ play Alone [] 8 8 99 (insertB 1 ∷ rectangle 2 Delete seam ∷ []) (done true ∷ heldBy1 ∷ []) (B ∷ [])
+    ∷ play Alone [] 8 8 99 (rectangle 3 Insert seam ∷ rectangle 64 Insert seam ∷ []) (bare 3 ∷ bare 2 ∷ []) []
+    ∷ play Alone [] 1 8 99 (rectangle 1 Insert seam ∷ rectangle 1 Delete seam ∷ []) (bare 7 ∷ bare 0 ∷ []) []
+    ∷ play Alone [] 2 1 99 (rectangle 1 Insert seam ∷ []) (bare 8 ∷ []) []
+    ∷ play Alone [] 2 2 35 (rectangle 1 Insert seam ∷ []) (bare 9 ∷ []) []
+    ∷ play Alone [] 2 2 36 (rectangle 1 Insert seam ∷ []) (bare 0 ∷ []) (B ∷ A ∷ [])
+    ∷ play Alone [] 1 1 35 (rectangle 1 Insert seam ∷ rectangle 1 Delete seam ∷ []) (bare 7 ∷ bare 8 ∷ []) []
+    ∷ play Alone (B ∷ A ∷ []) 2 8 99 (rectangle 1 Delete seam ∷ rectangle 1 Insert seam ∷ []) (bare 0 ∷ heldBy1 ∷ []) []
+    ∷ play Alone [] 8 8 99 (insertA 1 ∷ insertB 2 ∷ rectangle 2 Delete seam ∷ []) (done true ∷ done true ∷ heldBy1 ∷ []) (B ∷ A ∷ [])
+    ∷ play Alone [] 8 8 99 (rectangle 1 Insert (rect 4 (pos 1) (pos 0) (pos 0) (pos 16)) ∷ rectangle 1 Insert (rect 4 (pos 1) (pos 0) (pos 0) (pos 0)) ∷ []) (bare 5 ∷ bare 13 ∷ []) []
+    ∷ []
+
+-- where a job fails as one: it may change its own tiles again, and needs no further place for those that it deleted; the abort brings them back;
+-- another job is held; the absent tiles that were deleted are counted once each, so that C finds no place, and after the commit it does
+abbrev ownPlays : List Play
+ownPlays =
+    play Together (B ∷ A ∷ []) 2 8 99 (rectangle 1 Delete seam ∷ rectangle 1 Insert seam ∷ []) (bare 0 ∷ bare 0 ∷ []) (B ∷ A ∷ [])
+    ∷ play Together (B ∷ A ∷ []) 2 8 99 (rectangle 1 Delete seam ∷ rectangle 1 Insert seam ∷ plain (aborting 1) ∷ []) (bare 0 ∷ bare 0 ∷ bare 0 ∷ []) (B ∷ A ∷ [])
+    ∷ play Together [] 8 8 99 (rectangle 1 Insert seam ∷ rectangle 1 Delete seam ∷ rectangle 2 Insert seam ∷ []) (bare 0 ∷ bare 0 ∷ heldBy1 ∷ []) []
+    ∷ play Together [] 8 8 99 (insertB 1 ∷ rectangle 2 Delete seam ∷ []) (done true ∷ heldBy1 ∷ []) (B ∷ [])
+    ∷ play Together (A ∷ []) 1 8 99 (rectangle 1 Delete seam ∷ rectangle 1 Insert seam ∷ []) (bare 0 ∷ bare 7 ∷ []) []
+    ∷ play Together (B ∷ A ∷ []) 2 8 99 (rectangle 1 Delete seam ∷ insertC 2 ∷ plain (committing 1) ∷ insertC 2 ∷ []) (bare 0 ∷ bare 7 ∷ bare 0 ∷ done true ∷ []) (C ∷ [])
+    ∷ []
+
+abbrev played : Play → Play
+played x =
+    let w = worldAfter (from (x .by) (x .tiles) (x .places) (x .slots) (x .bytes)) opens in
+    play (x .by) (x .tiles) (x .places) (x .slots) (x .bytes) (x .asked) (toldBy w (x .asked)) (usedTiles (worldAfter w (x .asked)))
+
+pub plays-hold : map played plays ≡ plays
+unfolding keyOf isKey tabledB soundB startCall settled encode entryAt rectangleCall
+plays-hold = refl
+
+pub own-plays : map played ownPlays ≡ ownPlays
+unfolding keyOf isKey tabledB soundB startCall settled encode entryAt rectangleCall
+own-plays = refl

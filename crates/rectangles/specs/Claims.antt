@@ -1,0 +1,139 @@
+-- What the theorems speak of: calls one after another, and calls with rectangles among them
+use mathlib.Core.Bool.{Bool, _&&_, _||_, false, true}
+use mathlib.Core.List.{List, [], _++_, _∷_, map}
+use mathlib.Core.Logic.{_≢_, _⊎_}
+use mathlib.Core.Option.{none, some}
+use mathlib.Core.Path.{_≡_}
+use Prim.Native.Nat.{_*_, _+_, _-_, _<_, _^_, _≤_, ℕ}
+use lib.Dec.{eqb, ltb}
+use lib.IntN.{ℤ}
+use lib.ListN.{length}
+use lib.Signed.{_<ℤ_, _≤ℤ_}
+use Rattle.lists.specs.Lists.{All}
+use Rattle.strict.specs.Book.{Book, heldBy, needsPlace, spokenFor, step}
+use Rattle.strict.specs.Commutativity.{FirstHolder}
+use Rattle.strict.specs.Histories.{operation}
+use Rattle.strict.specs.Operations.{begun}
+use Rattle.strict.specs.Strict.{Log, _▷_, empty}
+use Rattle.strict.specs.Strict as theory
+use Rattle.strict.specs.declared.Procedure.{Procedure}
+use Rattle.service.specs.Admission.{isOpen}
+use Rattle.service.specs.Calls.{startCall}
+use Rattle.service.specs.History.{Call, call, operating}
+use Rattle.service.specs.Journal.{encode, recordOf}
+use Rattle.service.specs.Sound.{soundB}
+use Rattle.service.specs.Tile.{keyAt}
+use Rattle.service.specs.World.{Reported, World, state}
+use Rattle.service.specs.declared.Address.{Address}
+use Rattle.service.specs.declared.Rule.{Rule}
+use Rattle.rectangles.specs.Rectangles.{height, keyFor, listed, misshapen, outOfRange, procedureFor, rectangleCall, width}
+use Rattle.rectangles.specs.declared.Change.{Change}
+use Rattle.rectangles.specs.declared.Rectangle.{Rectangle}
+
+-- called one after another, all are done
+abbrev pub AllDone : World → List Call → Type 0
+AllDone w [] = Unit {0}
+AllDone w (c ∷ cs) = (call w c .told .number ≡ 0) × AllDone (call w c .after) cs
+
+-- and what they leave
+abbrev pub leftBy : World → List Call → World
+leftBy w [] = w
+leftBy w (c ∷ cs) = leftBy (call w c .after) cs
+
+-- neither 5 nor 13 refuses the rectangle
+pub record Shaped (r : Rectangle) : Type 0 where
+  pub in-range : outOfRange r ≡ false
+  pub well-formed : misshapen r ≡ false
+
+-- k is the key of a tile from west to east and from top to bottom
+pub record Inside (r : Rectangle) (k : ℕ) : Type 0 where
+  pub column : ℤ
+  pub row : ℤ
+  pub from-west : r .west ≤ℤ column
+  pub to-east : column ≤ℤ r .east
+  pub from-top : r .top ≤ℤ row
+  pub to-bottom : row ≤ℤ r .bottom
+  pub has-key : keyAt (r .zoom) column row ≡ some k
+
+-- the tile a stands west of b, or in its column and above it
+abbrev pub Before : Address → Address → Type 0
+Before a b = (a .column <ℤ b .column) ⊎ ((a .column ≡ b .column) × (a .row <ℤ b .row))
+
+-- no two are the same
+abbrev pub Apart : List ℕ → Type 0
+Apart [] = Unit {0}
+Apart (k ∷ ks) = All (λ i. k ≢ i) ks × Apart ks
+
+-- the operation calls on a list of tiles, and those of a rectangle
+abbrev pub operations : ℕ → Procedure → List Address → List Call
+operations job p xs = map (λ a. operating job p a) xs
+
+abbrev pub callsOf : ℕ → Change → Rectangle → List Call
+callsOf job change r = operations job (procedureFor change) (listed r)
+
+-- the bytes of one record for each tile
+abbrev pub recordsOf : ℕ → Procedure → List Address → List ℕ
+recordsOf job p [] = []
+recordsOf job p (a ∷ xs) = encode (recordOf (operation job p (keyFor a)) true) ++ recordsOf job p xs
+
+-- THE ROOM OF EACH KIND, JUDGED ALONE: it runs out where the list is taken tile after tile
+abbrev pub placesRunOut : theory.Rule → ℕ → Book → ℕ → Procedure → List ℕ → Bool
+placesRunOut rule places m job p [] = false
+placesRunOut rule places m job p (k ∷ ks) =
+    (needsPlace rule (m .table) (begun job p k (m .tiles)) && eqb (spokenFor rule m) places) || placesRunOut rule places (step m (operation job p k)) job p ks
+
+abbrev pub slotsRunOut : ℕ → Book → ℕ → Procedure → List ℕ → Bool
+slotsRunOut slots m job p [] = false
+slotsRunOut slots m job p (k ∷ ks) = eqb (length (m .table)) slots || slotsRunOut slots (step m (operation job p k)) job p ks
+
+abbrev pub bytesRunOut : ℕ → ℕ → List ℕ → Bool
+bytesRunOut free open-jobs [] = false
+bytesRunOut free open-jobs (k ∷ ks) = ltb free (10 + 4 * open-jobs) || bytesRunOut (free - 10) open-jobs ks
+
+-- 1, 2 and 3 do not refuse
+pub record Ready (w : World) (job : ℕ) : Type 0 where
+  pub is-sound-there : soundB w ≡ true
+  pub small : job ≤ 63
+  pub is-open : isOpen (state w) job ≡ true
+
+-- of the tiles ks, in order, the first that is held, and the first entry that holds it
+pub record FirstHeld (rule : theory.Rule) (m : Book) (job : ℕ) (p : Procedure) (ks : List ℕ) (holder : ℕ) : Type 0 where
+  pub earlier : List ℕ
+  pub tile : ℕ
+  pub later : List ℕ
+  pub placed-so : ks ≡ earlier ++ (tile ∷ later)
+  pub none-earlier : All (λ k. heldBy rule m job p k ≡ none) earlier
+  pub held-there : FirstHolder rule (begun job p tile (m .tiles)) (m .table) holder
+
+-- the numbers that refuse a rectangle, in the order in which they are judged
+abbrev pub refusing : List ℕ
+refusing = 1 ∷ 2 ∷ 3 ∷ 5 ∷ 13 ∷ 6 ∷ 7 ∷ 8 ∷ 9 ∷ []
+
+-- 13 in words
+abbrev pub Misshapen : Rectangle → Type 0
+Misshapen r = (r .east <ℤ r .west) ⊎ ((r .bottom <ℤ r .top) ⊎ ((2 ^ (r .zoom) < width r) ⊎ (256 < width r * height r)))
+
+-- CALLS FROM A START BY A RULE, WITH RECTANGLES AMONG THEM
+pub data Move : Type 0 where
+  plain : Call → Move
+  rectangle : ℕ → Change → Rectangle → Move
+
+abbrev pub moved : World → Move → Reported
+moved w (plain c) = call w c
+moved w (rectangle job change r) = rectangleCall w job change r
+
+pub data FromMoves (by : Rule) (tiles : List ℕ) (count : ℕ) (operations journal : List ℕ) : Log Move → World → Type 0 where
+  starting : startCall by tiles count operations journal .told .number ≡ 0
+      → FromMoves by tiles count operations journal empty (startCall by tiles count operations journal .after)
+  went : {ms : Log Move} {w : World} → FromMoves by tiles count operations journal ms w → (m : Move) → moved w m .told .number ≡ 0
+      → FromMoves by tiles count operations journal (ms ▷ m) (moved w m .after)
+
+-- each rectangle written out as its operations
+abbrev pub followed : Log Call → List Call → Log Call
+followed cs [] = cs
+followed cs (d ∷ ds) = followed (cs ▷ d) ds
+
+abbrev pub written : Log Move → Log Call
+written empty = empty
+written (ms ▷ plain c) = written ms ▷ c
+written (ms ▷ rectangle job change r) = followed (written ms) (callsOf job change r)

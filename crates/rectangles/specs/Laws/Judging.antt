@@ -1,0 +1,292 @@
+-- The numbers of a rectangle, each exactly
+use mathlib.Core.Bool.{Bool, _||_, false, not, true}
+use mathlib.Core.List.{List, [], _++_, _∷_}
+use mathlib.Core.Logic.{_↔_, _≢_, _⊎_, inl, inr, ⊎-elim}
+use mathlib.Core.Option.{Option, none, some}
+use mathlib.Core.Path.{_∙_, _≡_, ap, refl, subst, sym}
+use Prim.Native.Nat.{_<_, _^_, _≤_, ℕ}
+use native.Mathlib.Omega.{arith}
+use lib.Dec.{eqb, lt→ltb, ltb, ltb→lt}
+use lib.IntN.{negsuc, pos, ℤ}
+use lib.ListN.{length}
+use lib.Signed.{_<ℤ_, ltZ-yes}
+use borrow.Author.Tests.{eq-eqb, eqb-true, le-ltb, lt-ltb, ltb-false, ltb-true, not-false, not-true}
+use Rattle.lists.specs.Lists.{All}
+use Rattle.lists.specs.Truth.{both-false, never, or-left, or-right}
+use Rattle.strict.specs.Book.{Book, heldBy}
+use Rattle.strict.specs.Operations.{begun}
+use Rattle.strict.specs.Strict.{Rule}
+use Rattle.strict.specs.Theorems.{first-holder}
+use Rattle.strict.specs.declared.Procedure.{Procedure}
+use Rattle.service.specs.Admission.{isOpen, openMarks}
+use Rattle.service.specs.Laws.Soundness.{sound-is}
+use Rattle.service.specs.Laws.Standing.{unrefused}
+use Rattle.service.specs.Laws.Storing.{tabled-stands}
+use Rattle.service.specs.Sound.{soundB}
+use Rattle.service.specs.Told.{Refusal, Told, bare, decided, refuse, refuseHeld, refused}
+use Rattle.service.specs.World.{World, freeBytes, state}
+use Rattle.rectangles.specs.Claims.{FirstHeld, Misshapen, Ready, Shaped, bytesRunOut, placesRunOut, slotsRunOut}
+use Rattle.rectangles.specs.Laws.Fitting.{first-none, none-applies}
+use Rattle.rectangles.specs.Laws.Running.{bytes-run-out, places-run-out, slots-run-out}
+use Rattle.rectangles.specs.Laws.Telling.{Others, told-exactly, told-whole}
+use Rattle.rectangles.specs.Laws.Tiles.{all-apart}
+use Rattle.rectangles.specs.Laws.Whole.{rectangle-told}
+use Rattle.rectangles.specs.Rectangles.{area, fewBytes, fewPlaces, fewSlots, firstHeld, firstOf, height, keys, listRefusals, listed, misshapen, outOfRange, procedureFor, rectangleCall, roomRefusals, ruledBy, span, width}
+use Rattle.rectangles.specs.declared.Change.{Change}
+use Rattle.rectangles.specs.declared.Rectangle.{Rectangle}
+
+-- THE FIRST HELD TILE
+pub none-held : (rule : Rule) (m : Book) (job : ℕ) (p : Procedure) (ks : List ℕ) → All (λ k. heldBy rule m job p k ≡ none) ks → firstHeld rule m job p ks ≡ none
+none-held rule m job p [] h = refl
+none-held rule m job p (k ∷ ks) h = rw (h .0) (none-held rule m job p ks (h .1))
+
+pub held-none : (rule : Rule) (m : Book) (job : ℕ) (p : Procedure) (ks : List ℕ) → firstHeld rule m job p ks ≡ none → All (λ k. heldBy rule m job p k ≡ none) ks
+held-none rule m job p [] e = tt
+held-none rule m job p (k ∷ ks) e =
+    let h = first-none (heldBy rule m job p k) (firstHeld rule m job p ks) e in
+    (h .0, held-none rule m job p ks (h .1))
+
+held-first : (rule : Rule) (m : Book) (job : ℕ) (p : Procedure) (ks : List ℕ) (i : ℕ) → firstHeld rule m job p ks ≡ some i → FirstHeld rule m job p ks i
+held-first rule m job p [] i e = absurd (let z : _≡_ {A = ℕ} 0 1 = cc in omega arith)
+held-first rule m job p (k ∷ ks) i e = go (heldBy rule m job p k) refl e (held-first rule m job p ks i)
+  where
+    go : (o : Option ℕ) → heldBy rule m job p k ≡ o → firstOf o (firstHeld rule m job p ks) ≡ some i
+        → (firstHeld rule m job p ks ≡ some i → FirstHeld rule m job p ks i) → FirstHeld rule m job p (k ∷ ks) i
+    go (some j) q e ih =
+        record {
+          earlier = [];
+          tile = k;
+          later = ks;
+          placed-so = refl;
+          none-earlier = tt;
+          held-there = first-holder rule (begun job p k (m .tiles)) (m .table) i .0 (q ∙ e);
+        }
+    go none q e ih =
+        let f = ih e in
+        record {
+          earlier = k ∷ f .earlier;
+          tile = f .tile;
+          later = f .later;
+          placed-so = ap {B = List ℕ} (λ l. k ∷ l) (f .placed-so);
+          none-earlier = (q, f .none-earlier);
+          held-there = f .held-there;
+        }
+
+first-held : (rule : Rule) (m : Book) (job : ℕ) (p : Procedure) (ks : List ℕ) (i : ℕ) → FirstHeld rule m job p ks i → firstHeld rule m job p ks ≡ some i
+first-held rule m job p ks i f =
+    ap (λ l. firstHeld rule m job p l) (f .placed-so)
+    ∙ go (f .earlier) (f .none-earlier) (first-holder rule (begun job p (f .tile) (m .tiles)) (m .table) i .1 (f .held-there))
+  where
+    go : (xs : List ℕ) → All (λ k. heldBy rule m job p k ≡ none) xs → heldBy rule m job p (f .tile) ≡ some i
+        → firstHeld rule m job p (xs ++ (f .tile ∷ f .later)) ≡ some i
+    go [] h e = ap (λ o. firstOf o (firstHeld rule m job p (f .later))) e
+    go (x ∷ xs) h e = rw (h .0) (go xs (h .1) e)
+
+-- 13 IN WORDS
+no-span : (a b : ℤ) → (span a b ≡ 0) ↔ (b <ℤ a)
+no-span (pos a) (pos b) = (λ e. ltZ-yes (lt→ltb b a (omega arith)), λ h. let l = ltb→lt b a (h .lt) in omega arith)
+no-span (pos a) (negsuc b) = (λ e. ltZ-yes tt, λ h. refl)
+no-span (negsuc a) (pos b) = (λ e. absurd (omega arith), λ h. absurd (h .lt))
+no-span (negsuc a) (negsuc b) = (λ e. ltZ-yes (lt→ltb a b (omega arith)), λ h. let l = ltb→lt a b (h .lt) in omega arith)
+
+or-iff : {A B : Type 0} (a b : Bool) → ((a ≡ true) ↔ A) → ((b ≡ true) ↔ B) → (a || b ≡ true) ↔ (A ⊎ B)
+or-iff true b f g = (λ e. inl (f .0 refl), λ h. refl)
+or-iff false b f g = (λ e. inr (g .0 e), λ h. ⊎-elim (λ x. never (sym (f .1 x))) (g .1) h)
+
+pub misshapen-is : (r : Rectangle) → (misshapen r ≡ true) ↔ Misshapen r
+misshapen-is r =
+    or-iff (eqb (width r) 0) _ (empty-is (r .west) (r .east))
+    (or-iff (eqb (height r) 0) _ (empty-is (r .top) (r .bottom))
+    (or-iff (ltb (2 ^ (r .zoom)) (width r)) (ltb 256 (area r)) (ltb-true _ _, lt-ltb _ _) (ltb-true _ _, lt-ltb _ _)))
+  where
+    empty-is : (a b : ℤ) → (eqb (span a b) 0 ≡ true) ↔ (b <ℤ a)
+    empty-is a b = (λ e. no-span a b .0 (eqb-true _ _ e), λ h. eq-eqb _ _ (no-span a b .1 h))
+
+-- THE NUMBERS
+held-six : (o : Option ℕ) → refuseHeld o .says .number ≡ 6
+held-six none = refl
+held-six (some j) = refl
+
+found-is : (o : Option ℕ) → (refuseHeld o .applies ≡ true) ↔ (o ≢ none)
+found-is none = (λ e. never (sym e), λ f. absurd (f refl))
+found-is (some j) = (λ e q. (let z : _≡_ {A = ℕ} 0 1 = cc in omega arith), λ f. refl)
+
+holder-told : (o : Option ℕ) (i : ℕ) → refuseHeld o .applies ≡ true → refuseHeld o .says ≡ record { number = 6; answer = 0; holder = i } → o ≡ some i
+holder-told none i a e = never (sym a)
+holder-told (some j) i a e = ap (λ (t : Told). some (t .holder)) e
+
+-- refusals that do not apply are passed by
+passed-by : (xs ys : List Refusal) (t : Told) → refused xs ≡ false → decided (xs ++ ys) t .number ≡ decided ys t .number
+passed-by [] ys t e = refl
+passed-by (x ∷ xs) ys t e =
+    let h = or-left (x .applies) (refused xs) e in
+    rw h (passed-by xs ys t (or-right (x .applies) (refused xs) e))
+
+-- which of three is the first
+unfoldable RoomTold : Bool → Bool → Bool → ℕ → Type 0
+RoomTold a b c n = ((n ≡ 7) ↔ (a ≡ true)) × ((n ≡ 8) ↔ ((a ≡ false) × (b ≡ true))) × ((n ≡ 9) ↔ ((a ≡ false) × (b ≡ false) × (c ≡ true)))
+
+room-first : (a b c : Bool) → RoomTold a b c (decided (roomRefusals a b c) (bare 0) .number)
+unfolding RoomTold
+room-first a b c =
+    let seven = told-exactly 7 [] (refuse 7 a) (refuse 8 b ∷ refuse 9 c ∷ []) (bare 0) tt refl (omega arith, (omega arith, tt)) (omega arith) in
+    let eight = told-exactly 8 (refuse 7 a ∷ []) (refuse 8 b) (refuse 9 c ∷ []) (bare 0) (omega arith, tt) refl (omega arith, tt) (omega arith) in
+    let nine = told-exactly 9 (refuse 7 a ∷ refuse 8 b ∷ []) (refuse 9 c) [] (bare 0) (omega arith, (omega arith, tt)) refl tt (omega arith) in (
+      (λ e. seven .0 e .1, λ e. seven .1 (refl, e)),
+      (λ e. let x = eight .0 e in (or-left a false (x .0), x .1), λ x. eight .1 (both-false (x .0) refl, x .1)),
+      (
+        λ e. let x = nine .0 e in (or-left a _ (x .0), or-left b false (or-right a _ (x .0)), x .1),
+        λ x. nine .1 (both-false (x .0) (both-false (x .1) refl), x .2),
+      ),
+    )
+
+module _ (w : World) (job : ℕ) (change : Change) (r : Rectangle) where
+  abbrev p : Procedure
+  p = procedureFor change
+
+  abbrev ks : List ℕ
+  ks = keys (listed r)
+
+  abbrev rule : Rule
+  rule = ruledBy w
+
+  abbrev told : Told
+  told = rectangleCall w job change r .told
+
+  -- 1, 2, 3; and then 5 and 13
+  abbrev three : List Refusal
+  three = refuse 1 (not (soundB w)) ∷ refuse 2 (ltb 63 job) ∷ refuse 3 (not (isOpen (state w) job)) ∷ []
+
+  abbrev four : List Refusal
+  four = three ++ (refuse 5 (outOfRange r) ∷ [])
+
+  abbrev five : List Refusal
+  five = four ++ (refuse 13 (misshapen r) ∷ [])
+
+  ready-is : (xs : List Refusal) → (refused (three ++ xs) ≡ false) ↔ (Ready w job × (refused xs ≡ false))
+  ready-is xs = (
+    λ e. let h = unrefused (three ++ xs) e in
+        (record { is-sound-there = not-false _ (h .0); small = ltb-false 63 job (h .1 .0); is-open = not-false _ (h .1 .1 .0) }, none-applies xs (h .1 .1 .1)),
+    λ c. none-applies (three ++ xs)
+        (ap not (c .0 .is-sound-there), (le-ltb 63 job (c .0 .small), (ap not (c .0 .is-open), unrefused xs (c .1)))),
+  )
+
+  last-others : (n : ℕ) → 6 ≢ n → 7 ≢ n → 8 ≢ n → 9 ≢ n → Others n (listRefusals w job p ks)
+  last-others n a b c d = ((λ e. a (sym (held-six (firstHeld rule (state w .book) job p ks)) ∙ e)), (b, (c, (d, tt))))
+
+  -- 1, 2 and 3
+  pub told-first : ((told .number ≡ 1) ↔ (soundB w ≡ false))
+      × ((told .number ≡ 2) ↔ ((soundB w ≡ true) × (63 < job)))
+      × ((told .number ≡ 3) ↔ ((soundB w ≡ true) × (job ≤ 63) × (isOpen (state w) job ≡ false)))
+  told-first =
+      let a = refuse 1 (not (soundB w)) in
+      let b = refuse 2 (ltb 63 job) in
+      let c = refuse 3 (not (isOpen (state w) job)) in
+      let later = refuse 5 (outOfRange r) ∷ refuse 13 (misshapen r) ∷ listRefusals w job p ks in
+      let one = told-exactly 1 [] a (b ∷ c ∷ later) (bare 0) tt refl
+      (omega arith, (omega arith, (omega arith, (omega arith, last-others 1 (omega arith) (omega arith) (omega arith) (omega arith))))) (omega arith) in
+      let two = told-exactly 2 (a ∷ []) b (c ∷ later) (bare 0) (omega arith, tt) refl
+      (omega arith, (omega arith, (omega arith, last-others 2 (omega arith) (omega arith) (omega arith) (omega arith)))) (omega arith) in
+      let three = told-exactly 3 (a ∷ b ∷ []) c later (bare 0) (omega arith, (omega arith, tt)) refl
+      (omega arith, (omega arith, last-others 3 (omega arith) (omega arith) (omega arith) (omega arith))) (omega arith) in
+      let t = ap (λ (t : Told). t .number) (rectangle-told w job change r) in (
+        (λ e. not-true _ (one .0 (sym t ∙ e) .1), λ e. t ∙ one .1 (refl, ap not e)),
+        (
+          λ e. let x = two .0 (sym t ∙ e) in (not-false _ (or-left (not (soundB w)) false (x .0)), ltb-true 63 job (x .1)),
+          λ x. t ∙ two .1 (both-false (ap not (x .0)) refl, lt-ltb 63 job (x .1)),
+        ),
+        (
+          λ e. let x = three .0 (sym t ∙ e) in (
+            not-false _ (or-left (not (soundB w)) _ (x .0)),
+            ltb-false 63 job (or-left (ltb 63 job) false (or-right (not (soundB w)) _ (x .0))),
+            not-true _ (x .1),
+          ),
+          λ x. t ∙ three .1 (both-false (ap not (x .0)) (both-false (le-ltb 63 job (x .1)) refl), ap not (x .2)),
+        ),
+      )
+
+  pub told-five : (told .number ≡ 5) ↔ (Ready w job × (outOfRange r ≡ true))
+  told-five =
+      let x = told-exactly 5 three (refuse 5 (outOfRange r)) (refuse 13 (misshapen r) ∷ listRefusals w job p ks) (bare 0)
+      (omega arith, (omega arith, (omega arith, tt))) refl (omega arith, last-others 5 (omega arith) (omega arith) (omega arith) (omega arith)) (omega arith) in
+      let y = ready-is [] in
+      let t = ap (λ (t : Told). t .number) (rectangle-told w job change r) in (
+        λ e. let c = x .0 (sym t ∙ e) in (y .0 (c .0) .0, c .1),
+        λ c. t ∙ x .1 (y .1 (c .0, refl), c .1),
+      )
+
+  pub told-thirteen : (told .number ≡ 13) ↔ (Ready w job × (outOfRange r ≡ false) × Misshapen r)
+  told-thirteen =
+      let x = told-exactly 13 four (refuse 13 (misshapen r)) (listRefusals w job p ks) (bare 0)
+      (omega arith, (omega arith, (omega arith, (omega arith, tt)))) refl (last-others 13 (omega arith) (omega arith) (omega arith) (omega arith)) (omega arith) in
+      let y = ready-is (refuse 5 (outOfRange r) ∷ []) in
+      let m = misshapen-is r in
+      let t = ap (λ (t : Told). t .number) (rectangle-told w job change r) in (
+        λ e. let c = x .0 (sym t ∙ e) in let z = y .0 (c .0) in (z .0, or-left (outOfRange r) false (z .1), m .0 (c .1)),
+        λ c. t ∙ x .1 (y .1 (c .0, none-applies (refuse 5 (outOfRange r) ∷ []) (c .1, tt)), m .1 (c .2)),
+      )
+
+  shaped-is : (refused five ≡ false) ↔ (Ready w job × Shaped r)
+  shaped-is =
+      let y = ready-is (refuse 5 (outOfRange r) ∷ refuse 13 (misshapen r) ∷ []) in (
+        λ e. let z = y .0 e in let h = unrefused (refuse 5 (outOfRange r) ∷ refuse 13 (misshapen r) ∷ []) (z .1) in
+            (z .0, record { in-range = h .0; well-formed = h .1 .0 }),
+        λ c. y .1 (c .0, none-applies (refuse 5 (outOfRange r) ∷ refuse 13 (misshapen r) ∷ []) (c .1 .in-range, (c .1 .well-formed, tt))),
+      )
+
+  pub told-six : (told .number ≡ 6) ↔ (Ready w job × Shaped r × (firstHeld rule (state w .book) job p ks ≢ none))
+  told-six =
+      let o = firstHeld rule (state w .book) job p ks in
+      let x = told-exactly 6 five (refuseHeld o) (roomRefusals (fewPlaces w job p ks) (fewSlots w ks) (fewBytes w ks)) (bare 0)
+      (omega arith, (omega arith, (omega arith, (omega arith, (omega arith, tt))))) (held-six o) (omega arith, (omega arith, (omega arith, tt))) (omega arith) in
+      let t = ap (λ (t : Told). t .number) (rectangle-told w job change r) in
+      let f = found-is o in (
+        λ e. let c = x .0 (sym t ∙ e) in let s = shaped-is .0 (c .0) in (s .0, s .1, f .0 (c .1)),
+        λ c. t ∙ x .1 (shaped-is .1 (c .0, c .1), f .1 (c .2)),
+      )
+
+  pub told-held : (i : ℕ) → (told ≡ record { number = 6; answer = 0; holder = i }) ↔ (Ready w job × Shaped r × FirstHeld rule (state w .book) job p ks i)
+  told-held i =
+      let m = state w .book in
+      let o = firstHeld rule m job p ks in
+      let rest = roomRefusals (fewPlaces w job p ks) (fewSlots w ks) (fewBytes w ks) in
+      let x = told-exactly 6 five (refuseHeld o) rest (bare 0)
+      (omega arith, (omega arith, (omega arith, (omega arith, (omega arith, tt))))) (held-six o) (omega arith, (omega arith, (omega arith, tt))) (omega arith) in
+      let t = rectangle-told w job change r in (
+        λ e. let c = x .0 (ap (λ (t : Told). t .number) (sym t ∙ e)) in
+            let s = shaped-is .0 (c .0) in
+            (s .0, s .1, held-first rule m job p ks i (holder-told o i (c .1) (sym (told-whole five (refuseHeld o) rest (bare 0) (c .0) (c .1)) ∙ sym t ∙ e))),
+        λ c. let e = first-held rule m job p ks i (c .2) in
+            t ∙ told-whole five (refuseHeld o) rest (bare 0) (shaped-is .1 (c .0, c .1)) (ap (λ q. refuseHeld q .applies) e)
+            ∙ ap (λ q. refuseHeld q .says) e,
+      )
+
+  -- where no tile of the list is held, 7, 8 and 9 are what is left
+  module _ (ready : Ready w job) (shaped : Shaped r) (unheld : All (λ k. heldBy rule (state w .book) job p k ≡ none) ks) (full : length (w .session .marks) ≡ 64) where
+    abbrev places : Bool
+    places = placesRunOut rule (length (w .tiles)) (state w .book) job p ks
+
+    abbrev slots : Bool
+    slots = slotsRunOut (length (w .operations)) (state w .book) job p ks
+
+    abbrev bytes : Bool
+    bytes = bytesRunOut (freeBytes w) (openMarks (w .session .marks)) ks
+
+    room-told : told .number ≡ decided (roomRefusals places slots bytes) (bare 0) .number
+    room-told =
+        let m = state w .book in
+        let o = sound-is w (ready .is-sound-there) in
+        let s = tabled-stands w full (o .tables) in
+        let a = places-run-out rule job p (length (w .tiles)) ks m (all-apart r shaped) (s .ascending) (s .room) in
+        let b = slots-run-out rule job p (length (w .operations)) ks m (s .fits) in
+        let c = bytes-run-out (freeBytes w) (openMarks (w .session .marks)) ks (o .ends-fit) in
+        ap (λ (t : Told). t .number) (rectangle-told w job change r)
+        ∙ passed-by five (listRefusals w job p ks) (bare 0) (shaped-is .1 (ready, shaped))
+        ∙ ap (λ q. decided (refuseHeld q ∷ roomRefusals (fewPlaces w job p ks) (fewSlots w ks) (fewBytes w ks)) (bare 0) .number) (none-held rule m job p ks unheld)
+        ∙ sym (λ i. decided (roomRefusals (a i) (b i) (c i)) (bare 0) .number)
+
+    pub told-room : ((told .number ≡ 7) ↔ (places ≡ true))
+        × ((told .number ≡ 8) ↔ ((places ≡ false) × (slots ≡ true)))
+        × ((told .number ≡ 9) ↔ ((places ≡ false) × (slots ≡ false) × (bytes ≡ true)))
+    unfolding RoomTold
+    told-room = subst (RoomTold places slots bytes) (sym room-told) (room-first places slots bytes)

@@ -1,0 +1,133 @@
+-- Rectangles of tiles, and the call that inserts or deletes all tiles of one
+use mathlib.Core.Bool.{Bool, _||_, cond, not}
+use mathlib.Core.List.{List, [], _∷_, map}
+use mathlib.Core.Option.{Option, none, some}
+use Prim.Native.Nat.{_%_, _*_, _+_, _-_, _/_, _^_, suc, zero, ℕ}
+use lib.Dec.{eqb, ltb}
+use lib.IntN.{_+ℤ_, negsuc, pos, ℤ}
+use lib.ListN.{length}
+use Rattle.lists.specs.Truth.{oneIf}
+use Rattle.strict.specs.Book.{Book, heldBy, needsPlace, spokenFor}
+use Rattle.strict.specs.Histories.{operation}
+use Rattle.strict.specs.Operations.{begun}
+use Rattle.strict.specs.Strict.{Rule}
+use Rattle.strict.specs.declared.Procedure.{Procedure}
+use Rattle.strict.specs.declared.Procedure.the-variants.{Del, Ins}
+use Rattle.service.specs.Admission.{isOpen, openMarks, ruleOf}
+use Rattle.service.specs.Calls.{carried}
+use Rattle.service.specs.Sound.{soundB}
+use Rattle.service.specs.Tile.{addressCall}
+use Rattle.service.specs.Told.{Refusal, Told, bare, decided, refuse, refuseHeld}
+use Rattle.service.specs.World.{Reported, World, freeBytes, state}
+use Rattle.service.specs.declared.Address.{Address}
+use Rattle.rectangles.specs.declared.Change.{Change}
+use Rattle.rectangles.specs.declared.Change.the-variants.{Delete, Insert}
+use Rattle.rectangles.specs.declared.Rectangle.{Rectangle}
+
+-- THE LIST
+-- how many integers there are from a to b: b - a + 1, and none where that is below 0
+abbrev pub span : ℤ → ℤ → ℕ
+span (pos a) (pos b) = suc b - a
+span (pos a) (negsuc b) = 0
+span (negsuc a) (pos b) = suc a + suc b
+span (negsuc a) (negsuc b) = suc a - b
+
+abbrev pub width : Rectangle → ℕ
+width r = span (r .west) (r .east)
+
+abbrev pub height : Rectangle → ℕ
+height r = span (r .top) (r .bottom)
+
+abbrev pub area : Rectangle → ℕ
+area r = width r * height r
+
+-- f i, f (i + 1), and so on: n of them
+abbrev pub counted : {A : Type 0} → (ℕ → A) → ℕ → ℕ → List A
+counted f i zero = []
+counted f i (suc n) = f i ∷ counted f (suc i) n
+
+-- west to east, each column from top to bottom
+abbrev pub tileAt : Rectangle → ℕ → Address
+tileAt r i = record { zoom = r .zoom; column = r .west +ℤ pos (i / height r); row = r .top +ℤ pos (i % height r) }
+
+abbrev pub listed : Rectangle → List Address
+listed r = counted (tileAt r) 0 (area r)
+
+abbrev pub keyFor : Address → ℕ
+keyFor a = addressCall a .key
+
+abbrev pub keys : List Address → List ℕ
+keys xs = map keyFor xs
+
+-- 5: the zoom or one of the two rows is not in its range
+abbrev pub unplaced : Address → Bool
+unplaced a = eqb (addressCall a .number) 5
+
+abbrev pub outOfRange : Rectangle → Bool
+outOfRange r =
+    unplaced (record { zoom = r .zoom; column = r .west; row = r .top }) || unplaced (record { zoom = r .zoom; column = r .east; row = r .bottom })
+
+-- 13: empty, wider than the level, or of more than 256 tiles
+abbrev pub misshapen : Rectangle → Bool
+misshapen r = eqb (width r) 0 || (eqb (height r) 0 || (ltb (2 ^ (r .zoom)) (width r) || ltb 256 (area r)))
+
+-- THE CALL
+abbrev pub procedureFor : Change → Procedure
+procedureFor Insert = Ins
+procedureFor Delete = Del
+
+-- 6: the holder of the first tile of the list that is held
+abbrev pub firstOf : Option ℕ → Option ℕ → Option ℕ
+firstOf (some job) o = some job
+firstOf none o = o
+
+abbrev pub firstHeld : Rule → Book → ℕ → Procedure → List ℕ → Option ℕ
+firstHeld rule m job p [] = none
+firstHeld rule m job p (k ∷ ks) = firstOf (heldBy rule m job p k) (firstHeld rule m job p ks)
+
+-- how many tiles of the list need a place
+abbrev pub needed : Rule → Book → ℕ → Procedure → List ℕ → ℕ
+needed rule m job p [] = 0
+needed rule m job p (k ∷ ks) = oneIf (needsPlace rule (m .table) (begun job p k (m .tiles))) + needed rule m job p ks
+
+-- the rule by which the tables of w are judged
+abbrev pub ruledBy : World → Rule
+ruledBy w = ruleOf (w .session .rule)
+
+-- 7: more than are free; 8: the list is longer than the free operation places; 9: there are fewer than 10 bytes a tile and 4 an open job
+abbrev pub fewPlaces : World → ℕ → Procedure → List ℕ → Bool
+fewPlaces w job p ks = ltb (length (w .tiles)) (spokenFor (ruledBy w) (state w .book) + needed (ruledBy w) (state w .book) job p ks)
+
+abbrev pub fewSlots : World → List ℕ → Bool
+fewSlots w ks = ltb (length (w .operations)) (length (state w .book .table) + length ks)
+
+abbrev pub fewBytes : World → List ℕ → Bool
+fewBytes w ks = ltb (freeBytes w) (10 * length ks + 4 * openMarks (w .session .marks))
+
+abbrev pub roomRefusals : Bool → Bool → Bool → List Refusal
+roomRefusals places slots bytes = refuse 7 places ∷ refuse 8 slots ∷ refuse 9 bytes ∷ []
+
+-- 6, 7, 8 and 9, for a list of keys
+abbrev pub listRefusals : World → ℕ → Procedure → List ℕ → List Refusal
+listRefusals w job p ks = refuseHeld (firstHeld (ruledBy w) (state w .book) job p ks) ∷ roomRefusals (fewPlaces w job p ks) (fewSlots w ks) (fewBytes w ks)
+
+abbrev pub rectangleRefusals : World → ℕ → Procedure → Rectangle → List Refusal
+rectangleRefusals w job p r =
+    refuse 1 (not (soundB w))
+    ∷ refuse 2 (ltb 63 job)
+    ∷ refuse 3 (not (isOpen (state w) job))
+    ∷ refuse 5 (outOfRange r)
+    ∷ refuse 13 (misshapen r)
+    ∷ listRefusals w job p (keys (listed r))
+
+-- the operations of a list of keys, carried out one after another, with a record each
+abbrev pub carriedAll : World → ℕ → Procedure → List ℕ → World
+carriedAll w job p [] = w
+carriedAll w job p (k ∷ ks) = carriedAll (carried w (operation job p k)) job p ks
+
+-- whole or refused
+unfoldable pub rectangleCall : World → ℕ → Change → Rectangle → Reported
+rectangleCall w job change r =
+    let p : Procedure = procedureFor change in
+    let t : Told = decided (rectangleRefusals w job p r) (bare 0) in
+    record { told = t; after = cond (eqb (t .number) 0) (carriedAll w job p (keys (listed r))) w }
