@@ -9,24 +9,47 @@ use crate::tile::Tile;
 use std::collections::{BTreeMap, BTreeSet};
 
 impl State {
-    /// What the operation of an open job would be admitted as, or why it is refused.
-    pub fn examine(&self, job: u8, procedure: Procedure, tile: Tile) -> Result<Admitted, Refusal> {
-        let kind = Kind::of(procedure, self.tiles.contains(&tile));
-        let wanted = Admitted { kind, job, tile };
-        let holder = self
-            .admitted
-            .iter()
-            .find(|entry| self.holds(entry, &wanted));
-        if let Some(entry) = holder {
-            return Err(Refusal::Held(entry.job));
+    /// What one procedure of an open job on a list of different tiles would be admitted as, or why
+    /// it is refused. No tile of the list decides about another, but they share the room.
+    pub fn examine(
+        &self,
+        job: u8,
+        procedure: Procedure,
+        tiles: &[Tile],
+    ) -> Result<Vec<Admitted>, Refusal> {
+        let wanted = self.wanted(job, procedure, tiles);
+        if let Some(holder) = wanted.iter().find_map(|one| self.holder(one)) {
+            return Err(Refusal::Held(holder));
         }
-        if self.needs_place(&wanted) && self.places_spoken_for() == self.tile_places {
+        if self.places_spoken_for() + self.places_needed(&wanted) > self.tile_places {
             return Err(Refusal::NoTileRoom);
         }
-        if self.admitted.len() == self.operation_places {
+        if self.admitted.len() + wanted.len() > self.operation_places {
             return Err(Refusal::OperationsFull);
         }
         Ok(wanted)
+    }
+
+    /// The operations of a list with what they find.
+    pub fn wanted(&self, job: u8, procedure: Procedure, tiles: &[Tile]) -> Vec<Admitted> {
+        let found = |tile: &Tile| Admitted {
+            kind: Kind::of(procedure, self.tiles.contains(tile)),
+            job,
+            tile: *tile,
+        };
+        tiles.iter().map(found).collect()
+    }
+
+    /// How many of the operations take a place that nobody has spoken for.
+    pub fn places_needed(&self, wanted: &[Admitted]) -> usize {
+        wanted.iter().filter(|one| self.needs_place(one)).count()
+    }
+
+    /// The job of the first unfinished operation that stands in the way of a new one.
+    fn holder(&self, wanted: &Admitted) -> Option<u8> {
+        let mut entries = self.admitted.iter();
+        let holding = entries.find(|entry| self.holds(entry, wanted));
+        holding.map(|entry| entry.job)
     }
 
     /// Whether an unfinished operation stands in the way of a new one.
@@ -58,7 +81,6 @@ impl State {
         self.tiles.len() + may_come_back
     }
 
-    /// Whether the operation takes a place that nobody has spoken for.
     fn needs_place(&self, wanted: &Admitted) -> bool {
         let has_its_place = match self.rule {
             Rule::EachAlone => false,

@@ -4,7 +4,7 @@ use crate::console::Console;
 use crate::journal::rule_of_journal;
 use crate::journals::journal;
 use crate::line::{parse, Call, Command};
-use crate::occasions::{occasions, Occasion};
+use crate::occasions::occasions;
 use crate::printed::printed_replay;
 use crate::rule::Rule;
 use crate::scripts::script;
@@ -40,6 +40,7 @@ fn group_of(console: &Console, command: Command) -> String {
         Command::Call(Call::Operate(..)) => on_session("operation"),
         Command::Call(Call::Commit(_)) => on_session("commit"),
         Command::Call(Call::Abort(_)) => on_session("abort"),
+        Command::Sweep(..) => on_session("rectangle"),
         Command::Address(_) => "address".to_string(),
         Command::Read(_) => "read".to_string(),
         Command::Replay(_, length) => by("replay", rule_replayed(console, length)),
@@ -73,8 +74,8 @@ pub fn count_script(counts: &mut Counts, seed: u64, lines: usize) {
 }
 
 fn count_command(counts: &mut Counts, console: &mut Console, command: Command, line: &[u8]) {
-    for occasion in occasions(console, command) {
-        count(counts, name_of_occasion(occasion));
+    for (name, _) in occasions().filter(|(_, applies)| applies(console, command)) {
+        count(counts, name_of_occasion(name));
     }
     let group = group_of(console, command);
     let answer = console.answer(line);
@@ -89,7 +90,8 @@ fn count_command(counts: &mut Counts, console: &mut Console, command: Command, l
 fn is_on_session(command: Command) -> bool {
     match command {
         Command::Call(Call::Start(..)) => false,
-        Command::Call(Call::Open(_) | Call::Operate(..) | Call::Commit(_) | Call::Abort(_)) => true,
+        Command::Call(Call::Open(_) | Call::Operate(..) | Call::Commit(_) | Call::Abort(_))
+        | Command::Sweep(..) => true,
         Command::Lend(..)
         | Command::Address(_)
         | Command::Read(_)
@@ -99,8 +101,8 @@ fn is_on_session(command: Command) -> bool {
     }
 }
 
-pub fn name_of_occasion(occasion: Occasion) -> String {
-    format!("occasion: {:?}", occasion)
+pub fn name_of_occasion(name: &str) -> String {
+    format!("occasion: {}", name)
 }
 
 fn count_broken(counts: &mut Counts, console: &Console) {
@@ -135,7 +137,7 @@ pub fn table(counts: &Counts) -> String {
     for (name, times) in counts {
         text += &format!("{:>9} {}\n", times, name);
     }
-    for number in 0..=12 {
+    for number in 0..=13 {
         let ending = format!("reply {:>2}", number);
         let all = counts.iter().filter(|(name, _)| name.ends_with(&ending));
         let times: usize = all.map(|(_, times)| times).sum();

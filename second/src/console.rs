@@ -2,6 +2,7 @@
 
 use crate::journal::{Reader, Reading, Record};
 use crate::line::{parse, Call, Change, Command};
+use crate::rectangle::{Rectangle, Sweep};
 use crate::replay::replay;
 use crate::reply::{numbers, Reply};
 use crate::rule::Rule;
@@ -61,6 +62,7 @@ impl Console {
         match command {
             Command::Lend(tiles, operations, journal) => self.lend(tiles, operations, journal),
             Command::Call(call) => Some(reply_line(self.call(call))),
+            Command::Sweep(job, sweep, rectangle) => Some(self.sweep(job, sweep, rectangle)),
             Command::Address(address) => Some(address_line(address)),
             Command::Read(place) => Some(self.read(length_of(place))),
             Command::Replay(count, length) => self.replay(count, length_of(length)),
@@ -94,6 +96,13 @@ impl Console {
             Call::Commit(job) => service::commit(session, tables, job),
             Call::Abort(job) => service::abort(session, tables, job),
         }
+    }
+
+    fn sweep(&mut self, job: u8, sweep: Sweep, rectangle: Rectangle) -> String {
+        let (session, tables) = (&mut self.session, &mut self.tables);
+        let reply = service::sweep(session, tables, job, sweep, rectangle);
+        let (number, _, holder) = numbers(reply);
+        format!("reply {} holder {}", number, holder)
     }
 
     /// Changes something from outside; none for a place that is not lent.

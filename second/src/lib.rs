@@ -16,6 +16,7 @@ pub mod operation;
 pub mod printed;
 pub mod program;
 pub mod random;
+pub mod rectangle;
 pub mod replay;
 pub mod reply;
 pub mod rule;

@@ -1,6 +1,7 @@
 //! One line of the console: a word and its numbers, to the byte.
 
 use crate::operation::Procedure;
+use crate::rectangle::{Rectangle, Sweep};
 use crate::rule::Rule;
 use crate::service::Address;
 
@@ -8,6 +9,7 @@ use crate::service::Address;
 pub enum Command {
     Lend(u32, u32, u32),
     Call(Call),
+    Sweep(u8, Sweep, Rectangle),
     Address(Address),
     Read(u32),
     Replay(u32, u32),
@@ -39,7 +41,7 @@ pub enum Change {
 }
 
 /// No command has more numbers than this.
-const MOST_NUMBERS: usize = 4;
+const MOST_NUMBERS: usize = 6;
 
 /// The command a line says; none if it is no such line.
 pub fn parse(line: &[u8]) -> Option<Command> {
@@ -58,6 +60,8 @@ fn parse_other(word: &[u8], numbers: &[&[u8]]) -> Option<Command> {
         (b"lend", [tiles, operations, journal]) => {
             Command::Lend(count(tiles)?, count(operations)?, count(journal)?)
         }
+        (b"insall", [job, place @ ..]) => swept(job, Sweep::Insert, place)?,
+        (b"delall", [job, place @ ..]) => swept(job, Sweep::Delete, place)?,
         (b"address", place) => Command::Address(address(place)?),
         (b"read", [place]) => Command::Read(count(place)?),
         (b"replay", [tiles, length]) => Command::Replay(count(tiles)?, count(length)?),
@@ -95,6 +99,23 @@ fn parse_change(word: &[u8], numbers: &[&[u8]]) -> Option<Change> {
 
 fn operate(job: &[u8], procedure: Procedure, place: &[&[u8]]) -> Option<Call> {
     Some(Call::Operate(small(job)?, procedure, address(place)?))
+}
+
+fn swept(job: &[u8], sweep: Sweep, place: &[&[u8]]) -> Option<Command> {
+    Some(Command::Sweep(small(job)?, sweep, rectangle(place)?))
+}
+
+fn rectangle(numbers: &[&[u8]]) -> Option<Rectangle> {
+    match numbers {
+        [zoom, west, east, top, bottom] => Some(Rectangle {
+            zoom: small(zoom)?,
+            west: signed(west)?,
+            east: signed(east)?,
+            top: signed(top)?,
+            bottom: signed(bottom)?,
+        }),
+        _ => None,
+    }
 }
 
 fn address(numbers: &[&[u8]]) -> Option<Address> {

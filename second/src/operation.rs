@@ -77,6 +77,15 @@ impl Kind {
         KINDS.iter().copied().find(|kind| kind.number() == number)
     }
 
+    /// The operation that it was, whatever it found.
+    pub fn procedure(self) -> Procedure {
+        match self {
+            Kind::Added | Kind::AlreadyThere => Procedure::Insert,
+            Kind::Removed | Kind::AlreadyGone => Procedure::Delete,
+            Kind::Seen | Kind::Missed => Procedure::Member,
+        }
+    }
+
     /// Whether the operation answers ok.
     pub fn answers_ok(self) -> bool {
         self != Kind::Missed

@@ -15,7 +15,7 @@ pub struct Tile {
 }
 
 /// The number of columns, and of rows, of a level; none for a level that is not served.
-fn side_of(zoom: u32) -> Option<u32> {
+pub fn side_of(zoom: u32) -> Option<u32> {
     if (LOWEST_ZOOM..=HIGHEST_ZOOM).contains(&zoom) {
         Some(1 << zoom)
     } else {

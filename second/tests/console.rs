@@ -47,6 +47,24 @@ fn a_session_by_rule_2_by_hand() {
 }
 
 #[test]
+fn rectangles_by_hand() {
+    let input = "lend 4 6 90\nstart 0 1\nopen 1\nopen 2\ninsall 1 4 -1 0 5 6\nread 8\nread 38\n\
+                 delall 2 4 0 0 0 15\ndelall 2 4 0 0 6 7\ninsall 2 4 1 1 0 0\n\
+                 delall 2 4 1 3 0 0\ndelall 2 4 1 0 0 0\ninsall 2 4 0 0 0 16\n\
+                 insall 2 4 -2147483648 2147483647 0 0\ninsall 64 4 0 0 0 0\n\
+                 insall 3 4 0 0 0 0\ndelall 2 4 1 2 0 0\ndelall 2 4 1 1 0 0\nmark 5 1\n\
+                 mark 6 1\nmark 7 1\nmark 8 1\nmark 9 1\ndelall 2 4 1 1 0 0\n";
+    let output = "lent 4 6 90\nreply 0 answer 0 holder 0\nreply 0 answer 0 holder 0\n\
+                  reply 0 answer 0 holder 0\nreply 0 holder 0\n\
+                  operation 1 1 1 1073987589 next 18\noperation 1 1 1 1073741830 next 48\n\
+                  reply 6 holder 1\nreply 6 holder 1\nreply 7 holder 0\nreply 8 holder 0\n\
+                  reply 13 holder 0\nreply 5 holder 0\nreply 13 holder 0\nreply 2 holder 0\n\
+                  reply 3 holder 0\nreply 0 holder 0\nreply 8 holder 0\nok\nok\nok\nok\nok\n\
+                  reply 1 holder 0\n";
+    assert_eq!(talk(input), output);
+}
+
+#[test]
 fn a_start_by_rule_2_needs_four_bytes() {
     let input = "lend 1 1 3\nrule 2\nstart 0 2\nsum\nlend 1 1 4\nstart 0 2\nbyte 3 1\n\
                  read 0\nbyte 3 2\nread 0\njournal 3\nread 0\nlend 1 1 3\nsum\n";
@@ -85,7 +103,7 @@ fn the_sum_runs_over_everything() {
 
 /// Lines that are no command where 2 tile places, 3 operation places and 60 bytes are lent.
 #[rustfmt::skip]
-const BAD_LINES: [&[u8]; 75] = [
+const BAD_LINES: [&[u8]; 82] = [
     b"", b" ", b"sum ", b" sum", b"sum 0", b"SUM", b"sum\r", b"sum\t", b"open", b"open  1",
     b"open 1 ", b"open 01", b"open +1", b"open -1", b"open 256", b"open 1 2", b"open\t1",
     b"open 1\r", b"open \xff", b"\xffopen 1", b"open 0x1", b"start 4294967296 1", b"start -1 1",
@@ -99,6 +117,8 @@ const BAD_LINES: [&[u8]; 75] = [
     b"operations 4294967296", b"journal 00", b"commit", b"abort 1 1",
     b"ins 1 4 0", b"ins 1 4 0 0 0", b"ins 256 4 0 0", b"ins", b"ins     ",
     b"start", b"start 0", b"start 0 0", b"start 0 3", b"start 0 01", b"start 0 1 1", b"start 0 256",
+    b"insall", b"insall 1 4 0 0 0", b"insall 1 4 0 0 0 0 0", b"insall 1 4 0 0 0 -0",
+    b"delall 1 256 0 0 0 0", b"delall 1 4 0 2147483648 0 0", b"memall 1 4 0 0 0 0",
     b"rule", b"rule 0", b"rule 3", b"rule 1 1",
 ];
 
@@ -122,6 +142,10 @@ fn numbers_at_the_end_of_their_types_are_numbers() {
         ("address 255 -2147483648 2147483647", "reply 5 key 0"),
         ("address 4 -2147483648 0", "reply 0 key 1073741824"),
         ("address 4 2147483647 0", "reply 0 key 1073987584"),
+        (
+            "insall 255 255 -2147483648 2147483647 -2147483648 2147483647",
+            "reply 1 holder 0",
+        ),
         ("read 4294967295", "end"),
         ("tiles 4294967295", "ok"),
         ("operations 4294967295", "ok"),

@@ -4,7 +4,7 @@ use second::census::{count_journal, count_script, table, Counts};
 use second::census::{name_of, name_of_broken, name_of_occasion};
 use second::console::answers;
 use second::journals::{journal, KINDS};
-use second::occasions::OCCASIONS;
+use second::occasions::occasions;
 use second::rule::RULES;
 use second::scripts::script;
 use second::soundness::requirements_of;
@@ -26,13 +26,15 @@ fn census() -> Counts {
 }
 
 /// The replies that each kind of call can give, by the rule that decides.
-const REPLIES: [(&str, &[u8]); 16] = [
+const REPLIES: [(&str, &[u8]); 18] = [
     ("start 1", &[0, 1]),
     ("start 2", &[0, 1, 9]),
     ("open 1", &[0, 1, 2, 4, 9]),
     ("open 2", &[0, 1, 2, 4, 9]),
     ("operation 1", &[0, 1, 2, 3, 5, 6, 7, 8, 9]),
     ("operation 2", &[0, 1, 2, 3, 5, 6, 7, 8, 9]),
+    ("rectangle 1", &[0, 1, 2, 3, 5, 6, 7, 8, 9, 13]),
+    ("rectangle 2", &[0, 1, 2, 3, 5, 6, 7, 8, 9, 13]),
     ("commit 1", &[0, 1, 2, 3]),
     ("commit 2", &[0, 1, 2, 3]),
     ("abort 1", &[0, 1, 2, 3]),
@@ -72,7 +74,7 @@ fn all_names() -> Vec<String> {
     let others = OTHER_ANSWERS
         .iter()
         .map(|(group, sort)| name_of(group, sort));
-    let occasions = OCCASIONS.iter().map(|occasion| name_of_occasion(*occasion));
+    let occasions = occasions().map(|(name, _)| name_of_occasion(name));
     broken
         .chain(replies)
         .chain(others)

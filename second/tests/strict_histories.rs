@@ -20,6 +20,9 @@ fn many_histories(rule: Rule) -> Tally {
         for (reply, times) in &trial.tally.replies {
             *sum.replies.entry(*reply).or_insert(0) += times;
         }
+        for (reply, times) in &trial.tally.rectangles {
+            *sum.rectangles.entry(*reply).or_insert(0) += times;
+        }
         sum.held_though_strict += trial.tally.held_though_strict;
         sum.no_room_though_fitting += trial.tally.no_room_though_fitting;
         sum.oldest_first_differs += trial.tally.oldest_first_differs;
@@ -27,6 +30,8 @@ fn many_histories(rule: Rule) -> Tally {
     for reply in [0, 6, 7, 8] {
         let times = sum.replies.get(&reply).copied().unwrap_or(0);
         assert!(times > 100, "{:?}", sum.replies);
+        let times = sum.rectangles.get(&reply).copied().unwrap_or(0);
+        assert!(times > 20, "{:?}", sum.rectangles);
     }
     assert_eq!(most_unfinished, most_done(rule).1);
     sum

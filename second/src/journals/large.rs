@@ -1,7 +1,7 @@
 //! Journals up to the last byte, the last tile place and the last operations place, and past them.
 
 use crate::journal::Record;
-use crate::journals::walk::{bytes_of, head_of, walk};
+use crate::journals::walk::{bytes_of, walk};
 use crate::operation::Procedure;
 use crate::random::Random;
 use crate::rule::RULES;
@@ -59,7 +59,7 @@ fn inserted(tiles: usize, batch: usize) -> Vec<Record> {
 
 /// The beginning of a journal by either rule. What rule 1 admits is admitted by rule 2 as well.
 fn some_head(random: &mut Random) -> Vec<Record> {
-    head_of(random.pick(&RULES)).into_iter().collect()
+    Record::naming(random.pick(&RULES)).into_iter().collect()
 }
 
 /// One job deletes many tiles of a table that is full or almost, and inserts them again, by rule

@@ -65,14 +65,6 @@ fn accepted(state: &mut State, record: Record) -> Option<Record> {
     take(state, record).ok().map(|()| record)
 }
 
-/// What stands at the beginning of a journal by this rule.
-pub fn head_of(rule: Rule) -> Option<Record> {
-    match rule {
-        Rule::EachAlone => None,
-        Rule::JobAsOne => Some(Record::JobAsOne),
-    }
-}
-
 /// Tries so many random calls by either rule and keeps the records of the accepted ones.
 pub fn walk(random: &mut Random, tries: usize) -> Vec<Record> {
     let rule = random.pick(&RULES);
@@ -88,7 +80,7 @@ pub fn walk_by(rule: Rule, random: &mut Random, tries: usize) -> Vec<Record> {
     let records = (0..tries)
         .filter_map(|_| some_record(random))
         .filter_map(|record| accepted(&mut state, record));
-    head_of(rule).into_iter().chain(records).collect()
+    Record::naming(rule).into_iter().chain(records).collect()
 }
 
 pub fn short_walk(random: &mut Random) -> Vec<Record> {

@@ -15,13 +15,15 @@ use Type::{Count, Entry, Signed, Small};
 
 type Form = (&'static str, &'static [Type]);
 
-const FORMS: [Form; 20] = [
+const FORMS: [Form; 22] = [
     ("lend", &[Count, Count, Count]),
     ("start", &[Count, Small]),
     ("open", &[Small]),
     ("ins", &[Small, Small, Signed, Signed]),
     ("del", &[Small, Small, Signed, Signed]),
     ("mem", &[Small, Small, Signed, Signed]),
+    ("insall", &[Small, Small, Signed, Signed, Signed, Signed]),
+    ("delall", &[Small, Small, Signed, Signed, Signed, Signed]),
     ("commit", &[Small]),
     ("abort", &[Small]),
     ("address", &[Small, Signed, Signed]),
@@ -38,8 +40,9 @@ const FORMS: [Form; 20] = [
     ("rule", &[Small]),
 ];
 
-const UNKNOWN_WORDS: [&str; 12] = [
+const UNKNOWN_WORDS: [&str; 15] = [
     "Open", "OPEN", "opens", "ope", "insert", "help", "quit", "summ", "su", "tile1", "-", "?",
+    "memall", "insal", "delalls",
 ];
 
 const NO_RULES: [u8; 4] = [0, 3, 4, 255];

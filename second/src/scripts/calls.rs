@@ -3,6 +3,7 @@
 use crate::random::Random;
 use crate::rule::RULES;
 use crate::scripts::addresses::{anywhere, refused, Pool};
+use crate::scripts::rectangles;
 use crate::scripts::writer::Writer;
 
 const COMMON_JOBS: [u8; 8] = [0, 1, 2, 3, 3, 4, 62, 63];
@@ -54,12 +55,20 @@ fn any_call(writer: &mut Writer, pool: &Pool) -> String {
         5 => format!("{} {}", random.pick(&["commit", "abort"]), job),
         6 => address_step(random, pool),
         7 => read_somewhere(writer),
+        9 => rectangles::some_line(random, pool, job),
         8 if random.one_in(6) => {
             let tiles = writer.console.session.tiles;
             format!("start {} {}", tiles, random.pick(&RULES).number())
         }
         _ => operation(random, pool, job),
     }
+}
+
+/// A rectangle of some job.
+pub fn rectangle(writer: &mut Writer, pool: &Pool) {
+    let job = some_job(writer);
+    let line = rectangles::some_line(&mut writer.random, pool, job);
+    writer.tell(line);
 }
 
 pub fn operation(random: &mut Random, pool: &Pool, job: u8) -> String {

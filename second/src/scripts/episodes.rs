@@ -9,12 +9,13 @@ use crate::scripts::filling;
 use crate::scripts::nowhere;
 use crate::scripts::replacing;
 use crate::scripts::replays;
+use crate::scripts::sweeping;
 use crate::scripts::wild;
 use crate::scripts::writer::Writer;
 use crate::session::length_of;
 
 pub fn episode(writer: &mut Writer) {
-    match writer.random.below(603) {
+    match writer.random.below(856) {
         0..=129 => side_by_side(writer),
         130..=194 => small_journal(writer),
         195..=289 => from_nowhere(writer),
@@ -29,7 +30,12 @@ pub fn episode(writer: &mut Writer) {
         593..=595 => filling::fill_journal_from_outside(writer),
         596..=597 => filling::fill_operations_from_outside(writer),
         598..=599 => filling::fill_tiles_from_outside(writer),
-        _ => replacing::episode(writer),
+        600..=602 => replacing::episode(writer),
+        603..=642 => sweeping::episode(writer),
+        643..=762 => sweeping::at_the_last_place(writer),
+        763..=822 => sweeping::held(writer),
+        823..=830 => sweeping::on_many_tiles(writer),
+        _ => sweeping::edges(writer),
     }
 }
 

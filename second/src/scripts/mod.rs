@@ -7,8 +7,10 @@ mod damage;
 mod episodes;
 mod filling;
 mod nowhere;
+mod rectangles;
 mod replacing;
 mod replays;
+mod sweeping;
 mod wild;
 mod writer;
 mod wrong_entries;
@@ -18,9 +20,11 @@ use crate::console::MOST_INPUT;
 use crate::random::Random;
 use writer::Writer;
 
-/// Every so many seeds a script fills the largest tables, and one has a special length.
+/// Every so many seeds a script fills the largest tables, call by call or by rectangles, and some
+/// have a special length.
 const SEEDS_ROUND: u64 = 32;
 const FILLING_SEED: u64 = 5;
+const SWEEPING_SEED: u64 = 21;
 const LENGTH_SEEDS: [(u64, usize); 2] = [(11, MOST_INPUT), (17, MOST_INPUT + 1)];
 
 /// The script of a seed, of about so many lines.
@@ -29,6 +33,8 @@ pub fn script(seed: u64, lines: usize) -> Vec<u8> {
     let turn = seed % SEEDS_ROUND;
     if turn == FILLING_SEED {
         filling::fill_largest_tables(&mut writer);
+    } else if turn == SWEEPING_SEED {
+        sweeping::fill_largest_tables(&mut writer);
     } else {
         write_episodes(&mut writer, lines);
     }

@@ -4,7 +4,7 @@ use super::history::{Done, Trial};
 use super::{held, refused};
 use second::operation::{Procedure, Recovery};
 use second::rule::Rule;
-use second::strictness::{commutes, most_tiles, strict, Step};
+use second::strictness::{commutes, most_tiles, step_on, strict, Step};
 use second::tile::Tile;
 use std::collections::BTreeSet;
 
@@ -21,10 +21,58 @@ impl Trial {
         if self.lacks_room(new, &with_new) {
             return refused(7);
         }
-        if self.unfinished().count() == self.bench.tables.operations.len() {
+        if self.unfinished().count() >= self.bench.tables.operations.len() {
             return refused(8);
         }
         (0, u8::from(new.ok), 0)
+    }
+
+    /// The number and the holder that a rectangle gets: its operations are taken one after another,
+    /// each held or not as the tables stand now. Its steps, too.
+    pub fn due_rectangle(
+        &mut self,
+        job: u8,
+        transaction: usize,
+        procedure: Procedure,
+        tiles: &[Tile],
+    ) -> ((u8, u8), Vec<Step>) {
+        let now = self.tiles();
+        let steps: Vec<Step> = tiles
+            .iter()
+            .map(|tile| step_on(transaction, procedure, *tile, &now))
+            .collect();
+        let holder = steps.iter().find_map(|step| self.holder(job, *step));
+        let with_list = [self.steps(), steps.clone()].concat();
+        self.compare_with_strictness(holder, &with_list);
+        if let Some(holder) = holder {
+            return ((6, holder), steps);
+        }
+        let number = self.due_number(job, &steps);
+        if self.rule == Rule::EachAlone {
+            let places = self.bench.tables.tiles.len();
+            let fits = most_tiles(self.rule, &self.start, &with_list) <= places;
+            assert_eq!(number == 7, !fits);
+        }
+        ((number, 0), steps)
+    }
+
+    /// The number that a list of operations gets that are not held.
+    fn due_number(&mut self, job: u8, steps: &[Step]) -> u8 {
+        let before = self.done.len();
+        let mut number = 0;
+        for step in steps {
+            // One that only lacks an entry is taken all the same: a later one may lack a place.
+            number = match self.due_reply(job, *step).0 {
+                0 => number,
+                refused => refused,
+            };
+            if number == 7 {
+                break;
+            }
+            self.done.push(Done { job, step: *step });
+        }
+        self.done.truncate(before);
+        number
     }
 
     /// The job of the first unfinished operation that stands in the way.

@@ -5,6 +5,7 @@ use super::{tile, Bench, DONE};
 use second::journal::Record;
 use second::operation::{Procedure, PROCEDURES};
 use second::random::Random;
+use second::rectangle::{Rectangle, SWEEPS};
 use second::rule::Rule;
 use second::service::Address;
 use second::strictness::{most_tiles, run, step_on, strict, Step, Tiles};
@@ -41,6 +42,7 @@ pub struct Logged {
 #[derive(Default)]
 pub struct Tally {
     pub replies: BTreeMap<u8, usize>,
+    pub rectangles: BTreeMap<u8, usize>,
     pub held_though_strict: usize,
     pub no_room_though_fitting: usize,
     pub oldest_first_differs: usize,
@@ -121,13 +123,12 @@ impl Trial {
         history.expect("the answers it had").tiles
     }
 
-    fn note(&mut self, transaction: usize, record: Record, step: Option<Step>) {
-        let end = self.bench.journal().len();
+    fn note(&mut self, transaction: usize, record: Record) {
         self.log.push(Logged {
-            end,
+            end: self.bench.journal().len(),
             transaction,
             record,
-            step,
+            step: None,
         });
     }
 
@@ -140,6 +141,7 @@ impl Trial {
             (Some(transaction), 0) => self.finish(job, transaction),
             (Some(transaction), 1) => self.strike_out(job, transaction),
             (Some(transaction), _) if crowded => self.finish(job, transaction),
+            (Some(transaction), 2) => self.try_rectangle(job, transaction),
             (Some(transaction), _) => self.try_operation(job, transaction),
         }
         self.check();
@@ -162,7 +164,7 @@ impl Trial {
         assert_eq!(self.bench.open(job), DONE);
         self.transactions += 1;
         self.open.insert(job, self.transactions);
-        self.note(self.transactions, Record::Open(job), None);
+        self.note(self.transactions, Record::Open(job));
     }
 
     fn finish(&mut self, job: u8, transaction: usize) {
@@ -171,7 +173,7 @@ impl Trial {
         for done in self.done.iter_mut() {
             done.step.finished |= done.step.transaction == transaction;
         }
-        self.note(transaction, Record::Commit(job), None);
+        self.note(transaction, Record::Commit(job));
     }
 
     fn strike_out(&mut self, job: u8, transaction: usize) {
@@ -183,7 +185,7 @@ impl Trial {
         self.open.remove(&job);
         self.done
             .retain(|done| done.step.transaction != transaction);
-        self.note(transaction, Record::Abort(job), None);
+        self.note(transaction, Record::Abort(job));
         self.tally.oldest_first_differs += usize::from(oldest_first != self.tiles());
     }
 
@@ -196,20 +198,57 @@ impl Trial {
         assert_eq!(self.bench.operate(job, procedure, address), due);
         *self.tally.replies.entry(due.0).or_insert(0) += 1;
         if due.0 == 0 {
-            self.admit(job, procedure, new);
+            self.admit(job, procedure, &[new]);
         } else {
             assert_eq!(self.bench, before);
         }
     }
 
-    fn admit(&mut self, job: u8, procedure: Procedure, step: Step) {
-        let record = Record::Operation {
-            job,
-            procedure,
-            ok: step.ok,
-            tile: step.tile,
+    /// Up to four tiles round those of the history, if it has room for so many more.
+    fn try_rectangle(&mut self, job: u8, transaction: usize) {
+        let west = self
+            .random
+            .pick(&[-1, 14, 15, 0, 6, i32::MIN, i32::MAX - 1]);
+        let top = self.random.pick(&[5, 5, 4, 0]);
+        let place = Rectangle {
+            zoom: 4,
+            west,
+            east: west + self.random.pick(&[0, 1, 1]),
+            top,
+            bottom: top + self.random.pick(&[0, 0, 1]),
         };
-        self.done.push(Done { job, step });
-        self.note(step.transaction, record, Some(step));
+        let tiles = place.tiles().expect("a rectangle that is taken");
+        if self.unfinished().count() + tiles.len() > most_done(self.rule).1 {
+            return;
+        }
+        let sweep = self.random.pick(&SWEEPS);
+        let (due, steps) = self.due_rectangle(job, transaction, sweep.procedure(), &tiles);
+        let before = self.bench.clone();
+        assert_eq!(self.bench.sweep(job, sweep, place), due);
+        *self.tally.rectangles.entry(due.0).or_insert(0) += 1;
+        if due.0 == 0 {
+            self.admit(job, sweep.procedure(), &steps);
+        } else {
+            assert_eq!(self.bench, before);
+        }
+    }
+
+    /// To the history a rectangle is its operations; their records stand one behind the other.
+    fn admit(&mut self, job: u8, procedure: Procedure, steps: &[Step]) {
+        let end = self.bench.journal().len();
+        for (step, behind) in steps.iter().zip((0..steps.len()).rev()) {
+            self.done.push(Done { job, step: *step });
+            self.log.push(Logged {
+                end: end - 10 * behind,
+                transaction: step.transaction,
+                record: Record::Operation {
+                    job,
+                    procedure,
+                    ok: step.ok,
+                    tile: step.tile,
+                },
+                step: Some(*step),
+            });
+        }
     }
 }

@@ -8,6 +8,7 @@ pub mod history;
 pub mod tables;
 
 use second::operation::Procedure;
+use second::rectangle::{Rectangle, Sweep};
 use second::reply::numbers;
 use second::rule::Rule;
 use second::service::{self, Address};
@@ -112,6 +113,15 @@ impl Bench {
 
     pub fn mem(&mut self, job: u8, address: Address) -> (u8, u8, u8) {
         self.operate(job, Procedure::Member, address)
+    }
+
+    /// The number and the holder; a rectangle has no answer.
+    pub fn sweep(&mut self, job: u8, sweep: Sweep, rectangle: Rectangle) -> (u8, u8) {
+        let (session, tables) = (&mut self.session, &mut self.tables);
+        let (number, answer, holder) =
+            numbers(service::sweep(session, tables, job, sweep, rectangle));
+        assert_eq!(answer, 0);
+        (number, holder)
     }
 
     pub fn commit(&mut self, job: u8) -> (u8, u8, u8) {

@@ -1,0 +1,209 @@
+//! The list of a rectangle, the exact bounds of what is taken, and the order of the refusals.
+
+mod common;
+
+use common::*;
+use second::journal::{Reader, Reading, Record};
+use second::random::Random;
+use second::rectangle::{Rectangle, Sweep, SWEEPS};
+use second::reply::Refusal;
+use second::rule::{Rule, RULES};
+use second::service::Address;
+use second::tile::Tile;
+use std::collections::BTreeSet;
+
+fn rectangle(zoom: u8, columns: (i32, i32), rows: (i32, i32)) -> Rectangle {
+    Rectangle {
+        zoom,
+        west: columns.0,
+        east: columns.1,
+        top: rows.0,
+        bottom: rows.1,
+    }
+}
+
+/// 5 or 13 by the words of the papers, with numbers that hold everything; none where neither is
+/// due.
+fn due_refusal(place: Rectangle) -> Option<Refusal> {
+    let side = match place.zoom {
+        4..=14 => 1i128 << place.zoom,
+        _ => return Some(Refusal::OutsideRange),
+    };
+    let [west, east, top, bottom] =
+        [place.west, place.east, place.top, place.bottom].map(i128::from);
+    if !(0..side).contains(&top) || !(0..side).contains(&bottom) {
+        return Some(Refusal::OutsideRange);
+    }
+    let empty = east < west || bottom < top;
+    let too_wide = east - west + 1 > side;
+    let too_many = (east - west + 1) * (bottom - top + 1) > 256;
+    Some(Refusal::WrongRectangle).filter(|_| empty || too_wide || too_many)
+}
+
+/// Edges of columns and rows, at both ends of 32 bits and round a level.
+fn some_edges(random: &mut Random, side: i32) -> (i32, i32) {
+    let first = random.pick(&[i32::MIN, i32::MAX, -1, 0, 1, side - 1, side, -side, 5]);
+    let width = random.pick(&[-1, 0, 1, 2, 15, 16, 17, 255, 256, 257, side, side + 1]);
+    match random.below(4) {
+        0 => (first, random.pick(&[i32::MIN, i32::MAX, 0, -1, 5])),
+        _ => (first, first.saturating_add(width - 1)),
+    }
+}
+
+fn some_rectangle(random: &mut Random) -> Rectangle {
+    let zoom = random.pick(&[3, 4, 4, 4, 5, 5, 8, 9, 14, 15, 255]);
+    let side = 1 << u32::from(zoom).min(14);
+    let columns = some_edges(random, side);
+    let rows = match random.below(3) {
+        0 => some_edges(random, side),
+        _ => (0, random.pick(&[0, 1, 7, 8, 15, 16]).min(side - 1)),
+    };
+    rectangle(zoom, columns, rows)
+}
+
+#[test]
+fn what_is_taken_is_exactly_what_the_papers_say() {
+    let mut random = Random::seeded(21);
+    let (mut taken, mut refused) = (0, [0, 0]);
+    for _ in 0..60_000 {
+        let place = some_rectangle(&mut random);
+        let refusal = place.tiles().err();
+        assert_eq!(refusal, due_refusal(place), "{:?}", place);
+        match refusal {
+            None => taken += 1,
+            Some(refusal) => refused[usize::from(refusal == Refusal::WrongRectangle)] += 1,
+        }
+    }
+    assert!(taken > 3000 && refused[0] > 3000 && refused[1] > 3000);
+}
+
+#[test]
+fn the_list_has_every_tile_once_west_to_east_and_top_to_bottom() {
+    let mut random = Random::seeded(22);
+    let mut across_the_seam = 0;
+    for _ in 0..3000 {
+        let zoom = random.pick(&[4u8, 4, 5, 6]);
+        let west = random.pick(&[i32::MIN, i32::MAX - 20, -1, -20, 0, 15, 17, 1000]);
+        let width = random.between(1, 16) as i32;
+        let (top, height) = (random.between(0, 8) as i32, random.between(1, 8) as i32);
+        let place = rectangle(zoom, (west, west + width - 1), (top, top + height - 1));
+        let list = place.tiles().expect("a rectangle that is taken");
+        // Tile i is in column west + i / height and row top + i % height.
+        let due = (0..width * height)
+            .map(|i| Tile::at(zoom, west + i / height, top + i % height).expect("a tile"));
+        assert!(due.eq(list.iter().copied()));
+        let different: BTreeSet<Tile> = list.iter().copied().collect();
+        assert_eq!(different.len(), list.len());
+        let columns: BTreeSet<u32> = list.iter().map(|tile| tile.column()).collect();
+        across_the_seam += usize::from(list[0].column() > *columns.iter().next().expect("one"));
+    }
+    assert!(across_the_seam > 100);
+}
+
+#[test]
+fn a_rectangle_as_wide_as_the_level_lists_each_column_once() {
+    for (zoom, height) in [(4, 16), (5, 8), (6, 4), (7, 2), (8, 1)] {
+        let side = 1 << zoom;
+        for west in [i32::MIN, -1, 0, 7, i32::MAX - side + 1] {
+            let place = rectangle(zoom, (west, west + (side - 1)), (0, height - 1));
+            let list = place.tiles().expect("a rectangle that is taken");
+            let different: BTreeSet<Tile> = list.into_iter().collect();
+            assert_eq!(different.len(), 256);
+            let wider = rectangle(zoom, (west.min(0), west.min(0) + side), (0, 0));
+            assert_eq!(wider.tiles(), Err(Refusal::WrongRectangle));
+        }
+    }
+}
+
+/// The records of a journal, without the rule record.
+fn records(journal: &[u8]) -> Vec<Record> {
+    let mut reader = Reader::at(journal, 0);
+    let mut records = Vec::new();
+    while let Reading::Whole(record) = reader.read() {
+        records.push(record);
+    }
+    records.retain(|record| *record != Record::JobAsOne);
+    records
+}
+
+#[test]
+fn one_record_a_tile_in_the_order_of_the_list() {
+    for rule in RULES {
+        for sweep in SWEEPS {
+            let mut bench = Bench::with_places_by(rule, 100, &[A]);
+            let place = rectangle(4, (14, 17), (4, 6));
+            assert_eq!(bench.sweep(2, sweep, place), (0, 0));
+            let list = place.tiles().expect("a rectangle that is taken");
+            let written = records(bench.journal());
+            let due = list.iter().map(|tile| Record::Operation {
+                job: 2,
+                procedure: sweep.procedure(),
+                ok: true,
+                tile: *tile,
+            });
+            assert!(due.eq(written[2..].iter().copied()));
+            let due_tiles = match sweep {
+                Sweep::Insert => 12,
+                Sweep::Delete => 0,
+            };
+            assert_eq!(bench.keys().len(), due_tiles);
+            assert_eq!(bench.entries().len(), 12);
+        }
+    }
+}
+
+#[test]
+fn the_refusals_in_their_order() {
+    let none = rectangle(4, (1, 0), (16, 15));
+    let empty = rectangle(4, (1, 0), (5, 5));
+    let good = rectangle(4, (-1, 0), (5, 5));
+    for rule in RULES {
+        let mut bench = Bench::started_by(rule, (1, 1, 12), &[A]);
+        bench.tables.tiles[0] += 16;
+        assert_eq!(bench.sweep(64, Sweep::Insert, none), (1, 0));
+        bench.tables.tiles[0] -= 16;
+        assert_eq!(bench.sweep(64, Sweep::Insert, none), (2, 0));
+        assert_eq!(bench.sweep(63, Sweep::Insert, none), (3, 0));
+        assert_eq!(bench.open(63), DONE);
+        assert_eq!(bench.sweep(63, Sweep::Insert, none), (5, 0));
+        assert_eq!(bench.sweep(63, Sweep::Insert, empty), (13, 0));
+        assert_eq!(bench.sweep(63, Sweep::Insert, good), (7, 0));
+        assert_eq!(bench.sweep(63, Sweep::Delete, good), (8, 0));
+        bench.tables.operations.push(0);
+        assert_eq!(bench.sweep(63, Sweep::Delete, good), (9, 0));
+    }
+}
+
+#[test]
+fn the_first_held_tile_of_the_list_names_the_holder() {
+    for rule in RULES {
+        let mut bench = Bench::with_places_by(rule, 1, &[A]);
+        let other = Address { column: 14, ..A };
+        assert_eq!(bench.open(3), DONE);
+        assert_eq!(bench.del(2, A), OK);
+        let both = rectangle(4, (13, 15), (5, 5));
+        // The second tile has no place, but the third is held.
+        assert_eq!(bench.sweep(3, Sweep::Insert, both), (6, 2));
+        bench.tables.tiles.push(0);
+        assert_eq!(bench.ins(1, other), OK);
+        // Job 1 came later, but its tile stands before the other in the list.
+        let before = bench.clone();
+        assert_eq!(bench.sweep(3, Sweep::Delete, both), (6, 1));
+        assert_eq!(bench, before);
+    }
+}
+
+#[test]
+fn a_job_sweeps_over_its_own_tiles_by_rule_2() {
+    let place = rectangle(4, (14, 17), (4, 6));
+    let mut bench = Bench::with_places_by(Rule::JobAsOne, 12, &[]);
+    for sweep in [Sweep::Insert, Sweep::Delete, Sweep::Insert] {
+        assert_eq!(bench.sweep(1, sweep, place), (0, 0));
+    }
+    assert_eq!(bench.keys().len(), 12);
+    assert_eq!(bench.abort(1), DONE);
+    assert_eq!(bench.keys().len(), 0);
+    let mut bench = Bench::with_places_by(Rule::EachAlone, 12, &[]);
+    assert_eq!(bench.sweep(1, Sweep::Insert, place), (0, 0));
+    assert_eq!(bench.sweep(1, Sweep::Delete, place), (6, 1));
+}

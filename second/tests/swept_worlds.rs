@@ -1,0 +1,139 @@
+//! A rectangle is its operations, called one after another: on every sound session, by both rules.
+
+mod common;
+
+use common::tables::{damage, some_bench};
+use common::*;
+use second::random::Random;
+use second::rectangle::{Rectangle, Sweep, SWEEPS};
+use second::service::Address;
+use second::session::{MOST_JOURNAL, MOST_OPERATIONS, MOST_TILES};
+use std::collections::BTreeMap;
+
+const ROUNDS: usize = 60_000;
+
+/// Few tiles round those that the tables have, and now and then one that is refused.
+fn some_rectangle(random: &mut Random) -> Rectangle {
+    let west = random.pick(&[-2, -1, 0, 6, 14, 15, i32::MIN, i32::MAX - 2]);
+    let top = random.pick(&[5, 5, 5, 4, 3, 15]);
+    Rectangle {
+        zoom: random.pick(&[4, 4, 4, 4, 4, 4, 4, 3, 5]),
+        west,
+        east: west.saturating_add(random.pick(&[0, 0, 1, 2, -1])),
+        top,
+        bottom: top + random.pick(&[0, 0, 0, 1, 2]),
+    }
+}
+
+/// The addresses of a rectangle in the order of its list.
+fn addresses(place: Rectangle) -> Vec<Address> {
+    let columns = place.west..=place.east;
+    let list = columns.flat_map(|column| {
+        (place.top..=place.bottom).map(move |row| Address {
+            zoom: place.zoom,
+            column,
+            row,
+        })
+    });
+    list.collect()
+}
+
+/// The numbers and holders that the operations get, up to the first that is refused.
+fn one_by_one(bench: &mut Bench, job: u8, sweep: Sweep, place: Rectangle) -> Vec<(u8, u8)> {
+    let mut replies = Vec::new();
+    for address in addresses(place) {
+        let (number, _, holder) = bench.operate(job, sweep.procedure(), address);
+        replies.push((number, holder));
+        if number != 0 {
+            break;
+        }
+    }
+    replies
+}
+
+/// The same tables with one of them as it is and ample room in the others.
+fn with_room_judged(bench: &Bench, number: u8) -> Bench {
+    let mut bench = bench.clone();
+    if number != 7 {
+        bench.tables.tiles.resize(MOST_TILES, 0);
+    }
+    if number != 8 {
+        bench.tables.operations.resize(MOST_OPERATIONS, 0);
+    }
+    if number != 9 {
+        bench.tables.journal.resize(MOST_JOURNAL, 0);
+    }
+    bench
+}
+
+/// The reply to a rectangle that 1, 2, 3, 5 and 13 do not refuse: 6 for the first held tile on the
+/// tables as they stand; then a number exactly when the list, taken tile after tile, runs out of
+/// that room, each room judged alone.
+fn due_reply(bench: &Bench, job: u8, sweep: Sweep, place: Rectangle) -> (u8, u8) {
+    for address in addresses(place) {
+        let mut ample = with_room_judged(bench, 0);
+        let (number, _, holder) = ample.operate(job, sweep.procedure(), address);
+        if number == 6 {
+            return (6, holder);
+        }
+    }
+    for number in [7, 8, 9] {
+        let mut judged = with_room_judged(bench, number);
+        let replies = one_by_one(&mut judged, job, sweep, place);
+        if replies.last() == Some(&(number, 0)) {
+            return (number, 0);
+        }
+    }
+    (0, 0)
+}
+
+/// Whether a rectangle is refused before its tiles are looked at, and by which number.
+fn refused_before(bench: &Bench, job: u8, place: Rectangle) -> Option<u8> {
+    if !bench.is_sound() {
+        return Some(1);
+    }
+    if job > 63 {
+        return Some(2);
+    }
+    if !bench.session.open[usize::from(job)] {
+        return Some(3);
+    }
+    place.tiles().err().map(|refusal| refusal.number())
+}
+
+#[test]
+fn a_rectangle_is_done_exactly_when_its_operations_are() {
+    let mut random = Random::seeded(31);
+    let mut met: BTreeMap<(u8, u8), usize> = BTreeMap::new();
+    for _ in 0..ROUNDS {
+        let mut bench = some_bench(&mut random);
+        damage(&mut random, &mut bench);
+        let place = some_rectangle(&mut random);
+        let sweep = random.pick(&SWEEPS);
+        let job = random.pick(&[0, 0, 1, 2, 2, 64]);
+        let before = bench.clone();
+        let reply = bench.sweep(job, sweep, place);
+        *met.entry((before.session.rule.number(), reply.0))
+            .or_insert(0) += 1;
+        if reply.0 != 0 {
+            assert_eq!(bench, before);
+        }
+        if let Some(number) = refused_before(&before, job, place) {
+            assert_eq!(reply, (number, 0));
+            continue;
+        }
+        assert_eq!(reply, due_reply(&before, job, sweep, place), "{:?}", before);
+        let mut alone = before.clone();
+        let replies = one_by_one(&mut alone, job, sweep, place);
+        assert_eq!(reply.0 == 0, replies.iter().all(|reply| reply.0 == 0));
+        if reply.0 == 0 {
+            assert_eq!(bench, alone);
+        }
+    }
+    for rule in [1, 2] {
+        for number in [0, 1, 2, 3, 5, 6, 7, 8, 9, 13] {
+            let times = met.get(&(rule, number)).copied().unwrap_or(0);
+            assert!(times > 50, "{} {}: {:?}", rule, number, met);
+        }
+    }
+}
