@@ -30,52 +30,55 @@ pub fn admit(
     operations: &[u64],
     own_job: u8,
     procedure: Procedure,
-    key: u32,
+    new_key: u32,
 ) -> Result<Admitted, Refusal> {
     let entries = &operations[..session.operations];
-    let search = tiles[..session.tiles].binary_search(&key);
-    let kind = kind_of(procedure, search.is_ok());
-    let holder = match session.rule {
-        Rule::Alone => first_not_commuting(entries, kind, key),
-        Rule::Together => first_change_of_others(entries, own_job, key),
-    };
-    if let Some(holder) = holder {
+    let search = tiles[..session.tiles].binary_search(&new_key);
+    let new_kind = kind_of(procedure, search.is_ok());
+    let mut on_tile = entries.iter().copied().filter(|&e| key(e) == new_key);
+    if let Some(holder) = on_tile.find(|&e| holds(session.rule, own_job, new_kind, e)) {
         return Err(Refusal::Held(job(holder)));
     }
-    if kind == INSERTED && lacks_place(session, tiles.len(), entries, key) {
+    if new_kind == INSERTED
+        && lacks_places(session, tiles.len(), entries, 1)
+        && !has_reserved(session.rule, entries, new_key)
+    {
         return Err(Refusal::NoTileRoom);
     }
     if entries.len() == operations.len() {
         return Err(Refusal::NoOperationRoom);
     }
     let place = search.unwrap_or_else(|place| place);
-    Ok(Admitted { kind, key, place })
+    Ok(Admitted {
+        kind: new_kind,
+        key: new_key,
+        place,
+    })
 }
 
-fn first_not_commuting(entries: &[u64], new_kind: u64, new_key: u32) -> Option<u64> {
-    let holds = |&e: &u64| key(e) == new_key && !commutes(new_kind, kind(e));
-    entries.iter().copied().find(holds)
+/// Whether an unfinished entry on its tile holds a new operation.
+pub fn holds(rule: Rule, own_job: u8, new_kind: u64, unfinished: u64) -> bool {
+    match rule {
+        Rule::Alone => !commutes(new_kind, kind(unfinished)),
+        Rule::Together => job(unfinished) != own_job && changes_its_tile(unfinished),
+    }
 }
 
-fn first_change_of_others(entries: &[u64], own_job: u8, new_key: u32) -> Option<u64> {
-    let holds = |&e: &u64| key(e) == new_key && job(e) != own_job && changes_its_tile(e);
-    entries.iter().copied().find(holds)
-}
-
-/// Whether an absent tile that is to be inserted needs a place and all are spoken for. By the
-/// second rule a tile has one reserved if it was deleted, however often.
-fn lacks_place(session: &Session, places: usize, entries: &[u64], new_key: u32) -> bool {
-    // no more than these are reserved by either rule
-    let is_possible = session.tiles + deletes(entries) >= places;
-    let was_deleted = |&e: &u64| key(e) == new_key && kind(e) == DELETED;
-    is_possible
+/// Whether fewer tile places than are needed are neither used nor reserved.
+pub fn lacks_places(session: &Session, places: usize, entries: &[u64], needed: usize) -> bool {
+    let is_lacking = |reserved: usize| session.tiles + reserved + needed > places;
+    // by the second rule no more are reserved than by the first
+    is_lacking(deletes(entries))
         && match session.rule {
             Rule::Alone => true,
-            Rule::Together => {
-                !entries.iter().any(was_deleted)
-                    && session.tiles + chains::reserved_places(entries) == places
-            }
+            Rule::Together => is_lacking(chains::reserved_places(entries)),
         }
+}
+
+/// Whether an absent tile has a place reserved for itself: by the second rule, if it was deleted.
+fn has_reserved(rule: Rule, entries: &[u64], absent: u32) -> bool {
+    let was_deleted = |&e: &u64| key(e) == absent && kind(e) == DELETED;
+    rule == Rule::Together && entries.iter().any(was_deleted)
 }
 
 pub fn perform(

@@ -10,6 +10,8 @@ pub mod chains;
 mod engine;
 pub mod entry;
 pub mod journal;
+mod lists;
+pub mod rectangle;
 pub mod replay;
 pub mod reply;
 pub mod rule;

@@ -11,6 +11,7 @@ pub enum Refusal {
     NoTileRoom,
     NoOperationRoom,
     NoJournalRoom,
+    Misshapen,
 }
 
 /// An operation's answer, which is false for the other calls; or why the call was refused.
@@ -32,5 +33,6 @@ pub fn numbers(reply: Reply) -> [u64; 3] {
         Refusal::NoTileRoom => [7, 0, 0],
         Refusal::NoOperationRoom => [8, 0, 0],
         Refusal::NoJournalRoom => [9, 0, 0],
+        Refusal::Misshapen => [13, 0, 0],
     }
 }

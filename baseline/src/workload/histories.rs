@@ -1,9 +1,11 @@
 //! Lists of calls.
 
 use super::random::Random;
+use super::rectangles::any_rectangle;
 use super::world::{Call, World};
 use crate::entry::{job, key};
 use crate::journal::Procedure;
+use crate::rectangle::Change;
 use crate::reply::Refusal;
 use crate::rule::Rule;
 use crate::session::{JOBS, MOST_OPERATIONS};
@@ -33,6 +35,7 @@ pub fn any_call(random: &mut Random, keys: &[u32], jobs: usize) -> Call {
         0..=2 => Call::Open(job),
         3 => Call::Commit(job),
         4 => Call::Abort(job),
+        5..=7 => Call::Rectangle(job, random.pick(&Change::ALL), any_rectangle(random, keys)),
         _ => Call::Operation(job, random.pick(&PROCEDURES), any_address(random, keys)),
     }
 }

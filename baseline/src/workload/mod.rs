@@ -5,4 +5,5 @@ pub mod histories;
 pub mod journals;
 pub mod packs;
 pub mod random;
+pub mod rectangles;
 pub mod world;

@@ -4,6 +4,7 @@ use super::histories::stretch_until;
 use super::random::Random;
 use super::world::World;
 use crate::entry::{self, ALREADY_GONE, ALREADY_THERE, DELETED, INSERTED, NOT_SEEN, SEEN};
+use crate::rectangle::MOST_LISTED;
 use crate::rule::Rule;
 use crate::session::{JOBS, MOST_OPERATIONS, MOST_TILES};
 use crate::soundness::{slot, SPREAD};
@@ -17,6 +18,7 @@ pub enum Sort {
     Colliding,
     LittleUsed,
     Small,
+    Roomy,
     Own,
     Replaced,
     ReplacedApart,
@@ -32,7 +34,7 @@ pub const IDLE_JOB: u8 = 0;
 const REPLACED: usize = MOST_OPERATIONS / 2;
 
 impl Sort {
-    /// Those that are sound by both rules.
+    /// Those that are sound by both rules, but for the one with room for a rectangle.
     pub const OF_BOTH: [Sort; 6] = [
         Sort::Mixed,
         Sort::Changing,
@@ -45,7 +47,7 @@ impl Sort {
     /// Those in which jobs went on with what they changed.
     pub const OF_TOGETHER: [Sort; 3] = [Sort::Own, Sort::Replaced, Sort::ReplacedApart];
 
-    /// Every sort, by every rule by which it is sound.
+    /// Every sort of these, by every rule by which it is sound.
     pub fn all() -> impl Iterator<Item = (Rule, Sort)> {
         let of_both = |rule| Sort::OF_BOTH.into_iter().map(move |sort| (rule, sort));
         let of_together = Sort::OF_TOGETHER.into_iter();
@@ -61,6 +63,7 @@ impl Sort {
             Sort::Colliding => "full, keys collide in the filter",
             Sort::LittleUsed => "100 tiles, 12 entries in use",
             Sort::Small => "full, 64 and 16 places",
+            Sort::Roomy => "full but for 256, mixed kinds",
             Sort::Own => "full, mixed kinds on own tiles",
             Sort::Replaced => "full, each deleted, inserted again",
             Sort::ReplacedApart => "full, all deleted, all inserted again",
@@ -88,6 +91,7 @@ impl Sort {
         match self {
             Sort::LittleUsed => (100, 12),
             Sort::Small => (64, 16),
+            Sort::Roomy => (MOST_TILES - MOST_LISTED, MOST_OPERATIONS - MOST_LISTED),
             _ => (MOST_TILES, MOST_OPERATIONS),
         }
     }

@@ -2,6 +2,7 @@
 
 use crate::calls;
 use crate::journal::Procedure;
+use crate::rectangle::{Change, Rectangle};
 use crate::reply::Reply;
 use crate::rule::Rule;
 use crate::session::{Session, Tables, MOST_JOURNAL, MOST_OPERATIONS, MOST_TILES};
@@ -21,6 +22,7 @@ pub enum Call {
     Start(usize, Rule),
     Open(u8),
     Operation(u8, Procedure, Address),
+    Rectangle(u8, Change, Rectangle),
     Commit(u8),
     Abort(u8),
 }
@@ -61,9 +63,20 @@ impl World {
             Call::Operation(job, procedure, address) => {
                 calls::operation(check, session, tables, job, procedure, address)
             }
+            Call::Rectangle(job, change, rectangle) => {
+                calls::rectangle(check, session, tables, job, change, rectangle)
+            }
             Call::Commit(job) => calls::commit(check, session, tables, job),
             Call::Abort(job) => calls::abort(check, session, tables, job),
         }
+    }
+
+    /// With so many tile places, operation places and journal bytes fewer.
+    pub fn without(mut self, [tiles, operations, bytes]: [usize; 3]) -> World {
+        self.tiles.truncate(self.tiles.len() - tiles);
+        self.operations.truncate(self.operations.len() - operations);
+        self.journal.truncate(self.journal.len() - bytes);
+        self
     }
 
     /// The journal: the used bytes only.

@@ -3,12 +3,14 @@
 use crate::census::{Census, Compared};
 use crate::ways::{Way, WAYS};
 use baseline::journal::{read, Reading, Record};
+use baseline::rectangle::Change;
 use baseline::rule::Rule;
 use baseline::workload::damage::damage;
 use baseline::workload::histories::{any_call, recorded, small_world};
 use baseline::workload::journals::{spoilt, write_full, Load};
-use baseline::workload::packs::Sort;
+use baseline::workload::packs::{Sort, IDLE_JOB};
 use baseline::workload::random::Random;
+use baseline::workload::rectangles::roomy_pack;
 use baseline::workload::world::{Call, World};
 
 type Agreed = Result<(), String>;
@@ -27,6 +29,7 @@ pub fn compare_all() -> Result<Census, String> {
     for rule in Rule::ALL {
         compare_small_histories(&mut census, rule)?;
         compare_recorded(&mut census, rule)?;
+        compare_large_rectangles(&mut census, rule)?;
         compare_full_journals(&mut census, rule)?;
     }
     match census.missing() {
@@ -41,6 +44,7 @@ fn compare_call(census: &mut Census, world: &mut World, call: Call) -> Agreed {
     let expected = WAYS[0].call(world, call);
     let (compared, rule) = match call {
         Call::Start(_, rule) => (Compared::Start, rule),
+        Call::Rectangle(..) => (Compared::Rectangle, before.session.rule),
         _ => (Compared::Call, before.session.rule),
     };
     census.count(compared, rule, expected[0]);
@@ -194,6 +198,30 @@ fn compare_recorded(census: &mut Census, rule: Rule) -> Agreed {
     for stretch in recorded.stretches {
         for call in stretch.freeing.into_iter().chain(stretch.operations) {
             compare_call(census, &mut world, call)?;
+        }
+    }
+    Ok(())
+}
+
+/// Rectangles of the most tiles on full tables with room for just them, with less, and damaged.
+fn compare_large_rectangles(census: &mut Census, rule: Rule) -> Agreed {
+    let mut random = Random::seeded(6);
+    for seed in 0..PACKS_OF_A_SORT {
+        for change in Change::ALL {
+            let (pack, rectangle) = roomy_pack(rule, change, seed);
+            let call = Call::Rectangle(IDLE_JOB, change, rectangle);
+            for lacking in [[0, 0, 0], [1, 0, 0], [0, 1, 0], [0, 0, 1]] {
+                let mut world = pack.clone().without(lacking);
+                compare_call(census, &mut world, call)?;
+                compare_checks(&mut world)?;
+                compare_call(census, &mut world, call)?;
+                compare_call(census, &mut world, Call::Abort(IDLE_JOB))?;
+            }
+            for _ in 0..DAMAGES_OF_A_PACK {
+                let mut damaged = pack.clone();
+                damage(&mut random, &mut damaged);
+                compare_call(census, &mut damaged, call)?;
+            }
         }
     }
     Ok(())

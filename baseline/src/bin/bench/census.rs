@@ -8,16 +8,23 @@ use std::collections::BTreeMap;
 pub enum Compared {
     Start,
     Call,
+    Rectangle,
     Replay,
 }
 
 impl Compared {
-    const ALL: [Compared; 3] = [Compared::Start, Compared::Call, Compared::Replay];
+    const ALL: [Compared; 4] = [
+        Compared::Start,
+        Compared::Call,
+        Compared::Rectangle,
+        Compared::Replay,
+    ];
 
     fn name(self) -> &'static str {
         match self {
             Compared::Start => "starts",
             Compared::Call => "calls",
+            Compared::Rectangle => "rectangles",
             Compared::Replay => "replays",
         }
     }
@@ -28,6 +35,7 @@ impl Compared {
             (Compared::Start, Rule::Alone) => &[0, 1],
             (Compared::Start, Rule::Together) => &[0, 1, 9],
             (Compared::Call, _) => &[0, 1, 2, 3, 4, 5, 6, 7, 8, 9],
+            (Compared::Rectangle, _) => &[0, 1, 2, 3, 5, 6, 7, 8, 9, 13],
             (Compared::Replay, _) => &[0, 1, 10, 11, 12],
         }
     }
@@ -67,12 +75,14 @@ impl Census {
     }
 
     pub fn total(&self) -> String {
-        let [starts, calls, replays] = Compared::ALL.map(|compared| {
+        let [starts, calls, rectangles, replays] = Compared::ALL.map(|compared| {
             let counts = self.counts.iter();
             let own = counts.filter(|((c, _, _), _)| *c == compared);
             own.map(|(_, count)| count).sum::<usize>()
         });
-        format!("{starts} starts, {calls} calls and {replays} replays agree")
+        format!(
+            "{starts} starts, {calls} calls, {rectangles} rectangles and {replays} replays agree"
+        )
     }
 }
 

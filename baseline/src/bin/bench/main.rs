@@ -32,6 +32,7 @@ fn main() -> ExitCode {
         let rows = scenes::time_all();
         table::print(&rows);
         table::print_cost_of_replacing(&rows);
+        table::print_cost_of_rectangles(&rows);
     }
     println!("{}", census.total());
     ExitCode::SUCCESS

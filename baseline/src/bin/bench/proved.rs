@@ -1,7 +1,9 @@
 //! The proved calls. A slice goes as a pointer and a length, an array as a pointer.
 
+use baseline::rectangle::Rectangle;
 use baseline::rule::Rule;
 use baseline::session::Session;
+use baseline::tile::Address;
 use baseline::workload::world::{Call, World};
 
 /// Number, answer and holder; of a replay number, offset, jobs undone and tiles left.
@@ -63,6 +65,24 @@ extern "C" {
         zoom: u8,
         column: i32,
         row: i32,
+        reply: *mut Numbers,
+    );
+    fn bench_rectangle(
+        marks: *mut Marks,
+        parts: *mut Parts,
+        tiles: *mut u32,
+        tile_places: usize,
+        operations: *mut u64,
+        operation_places: usize,
+        journal: *mut u8,
+        journal_bytes: usize,
+        job: u8,
+        change: u8,
+        zoom: u8,
+        west: i32,
+        east: i32,
+        top: i32,
+        bottom: i32,
         reply: *mut Numbers,
     );
     fn bench_commit(
@@ -165,17 +185,26 @@ pub fn call(world: &mut World, call: Call) -> Numbers {
             on_session!(bench_start(m, p, world, count, rule as usize, r))
         }
         Call::Open(job) => on_session!(bench_open(m, p, world, job, r)),
-        Call::Operation(job, procedure, address) => on_session!(bench_operation(
-            m,
-            p,
-            world,
-            job,
-            procedure as u8,
-            address.zoom,
-            address.column,
-            address.row,
-            r
-        )),
+        Call::Operation(job, procedure, address) => {
+            let Address { zoom, column, row } = address;
+            let asked = procedure as u8;
+            on_session!(bench_operation(
+                m, p, world, job, asked, zoom, column, row, r
+            ))
+        }
+        Call::Rectangle(job, change, rectangle) => {
+            let Rectangle {
+                zoom,
+                west,
+                east,
+                top,
+                bottom,
+            } = rectangle;
+            let asked = change as u8;
+            on_session!(bench_rectangle(
+                m, p, world, job, asked, zoom, west, east, top, bottom, r
+            ))
+        }
         Call::Commit(job) => on_session!(bench_commit(m, p, world, job, r)),
         Call::Abort(job) => on_session!(bench_abort(m, p, world, job, r)),
     }

@@ -3,11 +3,13 @@
 
 use crate::table::Row;
 use crate::ways::{Way, WAYS};
+use baseline::rectangle::Change;
 use baseline::rule::Rule;
 use baseline::workload::histories::{recorded, Recorded};
 use baseline::workload::journals::{write_full, Load, Written};
 use baseline::workload::packs::{employ_idle_job, Sort, CLOSED_JOB, IDLE_JOB};
 use baseline::workload::random::Random;
+use baseline::workload::rectangles::roomy_pack;
 use baseline::workload::world::{Call, World};
 use std::time::{Duration, Instant};
 
@@ -26,6 +28,9 @@ pub fn time_all() -> Vec<Row> {
     let mut rows: Vec<Row> = checks.collect();
     rows.extend(Rule::ALL.map(time_recorded));
     rows.extend(time_calls());
+    for (rule, change) in rectangles() {
+        rows.extend(time_rectangle(rule, change));
+    }
     for rule in Rule::ALL {
         for load in Load::ALL {
             rows.extend([0, 4_000].map(|tiles| time_replay(rule, load, tiles)));
@@ -75,8 +80,11 @@ fn timed(run: impl FnOnce()) -> Duration {
 }
 
 fn time_check(rule: Rule, sort: Sort) -> Row {
-    let mut packs: Vec<World> = (0..PACKS).map(|seed| sort.pack(rule, seed)).collect();
-    let name = check_name(rule, sort);
+    let packs = (0..PACKS).map(|seed| sort.pack(rule, seed)).collect();
+    time_check_of(check_name(rule, sort), packs)
+}
+
+fn time_check_of(name: String, mut packs: Vec<World>) -> Row {
     best_of(name, CHECK_ROUNDS, packs.len(), |way| {
         let check_all = || assert!(packs.iter_mut().all(|pack| way.is_sound(pack)));
         vec![timed(check_all)]
@@ -130,20 +138,50 @@ fn time_call(name: &str, call: Call, rule: Rule, sort: Sort, entries: usize) -> 
     let pack = |seed| {
         let mut pack = sort.pack(rule, seed);
         employ_idle_job(&mut pack, entries);
-        pack
+        (pack, call)
     };
-    let packs: Vec<World> = (0..PACKS).map(pack).collect();
     let on = match rule {
         Rule::Alone => format!("{entries} entries"),
         Rule::Together => format!("{entries}, {}", sort.name()),
     };
-    best_of(named(rule, name, &on), CALL_ROUNDS, packs.len(), |way| {
-        let time_one = |pack: &World| {
+    time_each(named(rule, name, &on), (0..PACKS).map(pack).collect())
+}
+
+/// Calls that are accepted, each on tables of its own.
+fn time_each(name: String, scenes: Vec<(World, Call)>) -> Row {
+    best_of(name, CALL_ROUNDS, scenes.len(), |way| {
+        let time_one = |(pack, call): &(World, Call)| {
             let mut world = pack.clone();
-            timed(|| assert_eq!(way.call(&mut world, call)[0], 0))
+            timed(|| assert_eq!(way.call(&mut world, *call)[0], 0))
         };
-        packs.iter().map(time_one).collect()
+        scenes.iter().map(time_one).collect()
     })
+}
+
+/// The rectangles that are timed.
+pub fn rectangles() -> impl Iterator<Item = (Rule, Change)> {
+    let by_rule = |rule| Change::ALL.map(|change| (rule, change));
+    Rule::ALL.into_iter().flat_map(by_rule)
+}
+
+/// The check on the tables before a rectangle of the most tiles, and then the rectangle.
+fn time_rectangle(rule: Rule, change: Change) -> [Row; 2] {
+    let scene = |seed| {
+        let (pack, rectangle) = roomy_pack(rule, change, seed);
+        (pack, Call::Rectangle(IDLE_JOB, change, rectangle))
+    };
+    let scenes: Vec<(World, Call)> = (0..PACKS).map(scene).collect();
+    let packs = scenes.iter().map(|(pack, _)| pack.clone()).collect();
+    let [check, rectangle] = rectangle_names(rule, change);
+    [time_check_of(check, packs), time_each(rectangle, scenes)]
+}
+
+pub fn rectangle_names(rule: Rule, change: Change) -> [String; 2] {
+    let calls = match change {
+        Change::Insert => ["check, tiles absent", "rectangle inserted"],
+        Change::Delete => ["check, tiles present", "rectangle deleted"],
+    };
+    calls.map(|call| named(rule, call, Sort::Roomy.name()))
 }
 
 fn time_replay(rule: Rule, load: Load, tiles: usize) -> Row {

@@ -1,0 +1,130 @@
+//! Rectangles: any near some tiles, and those of the most tiles on tables with room for just them.
+
+use super::packs::Sort;
+use super::random::Random;
+use super::world::World;
+use crate::entry::key;
+use crate::journal::{JOB_RECORD, OPERATION_RECORD};
+use crate::rectangle::{Change, Rectangle, MOST_LISTED};
+use crate::rule::Rule;
+use crate::tile::Address;
+use std::collections::HashSet;
+
+/// A small one near one of these tiles, or now and then one at a bound.
+pub fn any_rectangle(random: &mut Random, keys: &[u32]) -> Rectangle {
+    let Address { zoom, column, row } = Address::of_key(random.pick(keys));
+    let mut below = |bound| random.below(bound) as i32;
+    let turned = (below(3) - 1) << zoom;
+    let (west, top) = (column - below(2) + turned, row - below(2));
+    let rectangle = Rectangle {
+        zoom,
+        west,
+        east: west + below(3),
+        top,
+        bottom: top + below(3),
+    };
+    if random.one_in(4) {
+        at_a_bound(random, rectangle)
+    } else {
+        rectangle
+    }
+}
+
+fn at_a_bound(random: &mut Random, of: Rectangle) -> Rectangle {
+    let (zoom, west, top) = (random.below(17) as u8, of.west, of.top);
+    let (first, last) = (i32::MIN, i32::MAX);
+    let more = random.below(2) as i32;
+    let bounds = [
+        Rectangle { zoom, ..of },
+        Rectangle { top: -1, ..of },
+        with_rows(of, top, 1 << of.zoom),
+        with_rows(of, first, last),
+        with_rows(of, top, top - 1),
+        with_columns(of, west, west - 1),
+        with_columns(of, first, last),
+        with_columns(of, first, first + more),
+        with_columns(of, last - more, last),
+        // 256 and 257 tiles, in one column and in one row
+        with_rows(with_columns(of, west, west), 0, 255 + more),
+        with_rows(with_columns(of, west, west + 255 + more), top, top),
+        // as wide as the level and one wider
+        with_rows(with_columns(level_of(4), west, west + 15 + more), 14, 15),
+    ];
+    random.pick(&bounds)
+}
+
+fn with_columns(of: Rectangle, west: i32, east: i32) -> Rectangle {
+    Rectangle { west, east, ..of }
+}
+
+fn with_rows(of: Rectangle, top: i32, bottom: i32) -> Rectangle {
+    Rectangle { top, bottom, ..of }
+}
+
+/// All tiles of a level.
+pub fn level_of(zoom: u8) -> Rectangle {
+    let last = (1 << zoom) - 1;
+    Rectangle {
+        zoom,
+        west: 0,
+        east: last,
+        top: 0,
+        bottom: last,
+    }
+}
+
+/// A pack with room for just the most tiles, and a rectangle of so many across the seam, which no
+/// entry has and which are all absent before an insert, and all present before a delete.
+pub fn roomy_pack(rule: Rule, change: Change, seed: u64) -> (World, Rectangle) {
+    let mut world = Sort::Roomy.pack(rule, seed);
+    let ends = JOB_RECORD * world.session.open_jobs();
+    world
+        .journal
+        .truncate(OPERATION_RECORD * MOST_LISTED + ends);
+    let entries = &world.operations[..world.session.operations];
+    let mut avoided: HashSet<u32> = entries.iter().map(|&e| key(e)).collect();
+    let used = &mut world.tiles[..world.session.tiles];
+    if change == Change::Insert {
+        avoided.extend(used.iter());
+    }
+    let rectangle = square_without(&avoided, seed);
+    if change == Change::Delete {
+        put_in(used, &avoided, rectangle);
+    }
+    (world, rectangle)
+}
+
+/// A square across the seam, at one of the levels 8 to 14, with none of these tiles.
+fn square_without(avoided: &HashSet<u32>, seed: u64) -> Rectangle {
+    let mut random = Random::seeded(seed);
+    loop {
+        let square = square_on_seam(&mut random, 8 + (seed % 7) as u8);
+        let mut keys = square.addresses().filter_map(Address::key);
+        if !keys.any(|key| avoided.contains(&key)) {
+            return square;
+        }
+    }
+}
+
+fn square_on_seam(random: &mut Random, zoom: u8) -> Rectangle {
+    let side = 1 << zoom;
+    let (west, top) = (
+        -(random.below(15) as i32) - 1,
+        random.below(side - 15) as i32,
+    );
+    with_rows(with_columns(level_of(zoom), west, west + 15), top, top + 15)
+}
+
+/// Puts the rectangle's tiles in the place of others that no entry has.
+fn put_in(tiles: &mut [u32], entered: &HashSet<u32>, rectangle: Rectangle) {
+    let keys: HashSet<u32> = rectangle.addresses().filter_map(Address::key).collect();
+    let (mut kept, free): (Vec<u32>, Vec<u32>) = tiles
+        .iter()
+        .filter(|&tile| !keys.contains(tile))
+        .partition(|&tile| entered.contains(tile));
+    let left = tiles.len() - keys.len() - kept.len();
+    kept.extend((0..left).map(|n| free[n * free.len() / left]));
+    kept.extend(keys);
+    kept.sort_unstable();
+    tiles.copy_from_slice(&kept);
+}
