@@ -1,4 +1,5 @@
 // A rectangle in one call: judged as a whole before a byte is written, and then carried out tile after tile.
+ghost use mathlib.Core.Bool.{false, true};
 ghost use mathlib.Core.List.{[]};
 ghost use mathlib.Core.Path.{_≡_};
 ghost use Prim.Native.Nat.{_+_, _<_, _≤_};
@@ -8,6 +9,8 @@ ghost use Rattle.service.specs.Admission.{ruleOf};
 ghost use Rattle.service.specs.Sound.{Sound, Tabled};
 ghost use Rattle.service.specs.Told.{bare, decided, told};
 ghost use Rattle.service.specs.World.{reported, state, world};
+ghost use Rattle.scans.specs.Filter.{Covers};
+ghost use Rattle.scans.specs.Tests.{elsewhere};
 ghost use Rattle.rectangles.specs.Claims.{Ready};
 ghost use Rattle.rectangles.specs.Fitting.{Ahead};
 ghost use Rattle.rectangles.specs.Rectangles.{carriedAll, keys as keysOf, listRefusals, listed, procedureFor, rectangleCall};
@@ -56,6 +59,27 @@ fn look_at(
     Seen::Free(rules::needs_place(rule, operations, used, kind, key))
 }
 
+// The same, where `met` is false only if no entry has the tile: then the entries are not looked at.
+fn look_past(
+    session: Session,
+    tiles: &[u32],
+    operations: &[u64],
+    job: u8,
+    procedure: Procedure,
+    key: u32,
+    met: bool,
+) -> Seen
+    requires { ⌜ Tabled (world session (now tiles) (now operations) []) × (met ≡ false → elsewhere key (take (session .operations) (now operations)) ≡ true) ⌝ }
+    ensures { λ r. ⌜ r ≡ lookOf (ruleOf (session .rule)) (state (world session (now (tiles .entry)) (now (operations .entry)) []) .book) job procedure key ⌝ }
+{
+    if met {
+        return look_at(session, tiles, operations, job, procedure, key);
+    }
+    let count = session.tiles;
+    let kind = admission::kind(procedure, tiles::is_present(tiles, count, key));
+    Seen::Free(kind == 1)
+}
+
 // One more where a place is needed.
 fn more(need: usize, needs: bool) -> usize
     requires { ⌜ need < 4096 ⌝ }
@@ -67,24 +91,28 @@ fn more(need: usize, needs: bool) -> usize
     need
 }
 
-// Judges the first n keys, tile after tile: they differ, so each is judged on the tables as they stand.
+// Judges the first n keys, tile after tile: they differ, so each is judged on the tables as they stand. The filter has met the tile of each used entry.
 fn look_all(
     session: Session,
     tiles: &[u32],
     operations: &[u64],
+    filter: &[u64; 1024],
     job: u8,
     procedure: Procedure,
     keys: &[u32],
     n: usize,
 ) -> Found
-    requires { ⌜ Tabled (world session (now tiles) (now operations) []) × (n ≤ length (now keys)) × (n ≤ 256) ⌝ }
+    requires { ⌜ Tabled (world session (now tiles) (now operations) []) × (n ≤ length (now keys)) × (n ≤ 256)
+        × (length (now filter) ≡ 1024) × Covers (now filter) (take (session .operations) (now operations)) ⌝ }
     ensures { λ r. ⌜ r ≡ listOf (ruleOf (session .rule)) (state (world session (now (tiles .entry)) (now (operations .entry)) []) .book) job procedure
         (take n (now (keys .entry))) ⌝ }
 {
     let mut need: usize = 0;
     let mut i: usize = 0;
     while i < n {
-        match look_at(session, tiles, operations, job, procedure, keys[i]) {
+        let key = keys[i];
+        let met = scans::is_met(filter, key);
+        match look_past(session, tiles, operations, job, procedure, key, met) {
             Seen::Held(holder) => {
                 return Found::Held(holder);
             }
@@ -139,7 +167,9 @@ fn judge_list(
     ensures { λ r. ⌜ told r
         ≡ decided (listRefusals (world session (now (tiles .entry)) (now (operations .entry)) (now (journal .entry))) job procedure (take n (now (keys .entry)))) (bare 0) ⌝ }
 {
-    match look_all(session, tiles, operations, job, procedure, keys, n) {
+    let used = session.operations;
+    let filter = scans::meet_all(operations, used);
+    match look_all(session, tiles, operations, &filter, job, procedure, keys, n) {
         Found::Held(holder) => Reply::Held(holder),
         Found::Needs(need) => lacking(session, tiles, operations, journal, need, n),
     }

@@ -18,12 +18,18 @@ given s = world (s .args .session) (now (s .args .tiles)) (now (s .args .operati
 
 -- how many places the list needs
 needing : (c : tie.After-known-told2)
-    → let s = c .before .before .before .before .before .before .before .before in
+    → let s = c .before .before .before .before .before .before .before .before .before .before in
     Finds (ruledBy (given s)) (state (given s) .book) (s .args .job) (s .args .procedure) (take (s .args .n) (now (s .args .keys))) (found.Needs (c .before .need .given .0 .0))
 needing c = finds _ _ _ _ _ _ _ (c .before .before .before .look-all .ensures) (c .before .need .given .1)
 
+meet-all-requires : tie.Need-meet-all-requires
+meet-all-requires c κs = c .before .before .before .before .pre .0 .tables .operations-fit
+
 look-all-requires : tie.Need-look-all-requires
-look-all-requires c κs = let s = c .before .before .before .before in (retabled (given s) (s .args .session .journal) [] (s .pre .0 .tables), s .pre .1, s .pre .2)
+look-all-requires c κs =
+    let s = c .before .before .before .before .before .before in
+    let met = c .before .meet-all .ensures in
+    (retabled (given s) (s .args .session .journal) [] (s .pre .0 .tables), s .pre .1, s .pre .2, met .0, met .1)
 
 enum-known-holder : tie.Need-enum-known-holder
 enum-known-holder c = search needs
@@ -33,23 +39,24 @@ enum-known-need c = search needs
 
 lacking-requires : tie.Need-lacking-requires
 lacking-requires c κs =
-    let s = c .before .before .before .before .before .before .before .before in
+    let s = c .before .before .before .before .before .before .before .before .before .before in
     (s .pre .0, need-few (given s) (s .args .job) (s .args .procedure) (now (s .args .keys)) (s .args .n) (s .pre .1) _ (needing c) (s .pre .2), s .pre .2)
 
 returns : tie.Need-returns
 returns c =
-    let s = c .before .before .before .before .before .before .before .before in
+    let s = c .before .before .before .before .before .before .before .before .before .before in
     held-told (given s) (s .args .job) (s .args .procedure) (now (s .args .keys)) (s .args .n) (s .pre .1) _ (finds _ _ _ _ _ _ _ (c .before .before .before .look-all .ensures) (c .before .holder .given .1))
 
 returns-2 : tie.Need-returns-2
 returns-2 c =
-    let s = c .before .before .before .before .before .before .before .before .before in
+    let s = c .before .before .before .before .before .before .before .before .before .before .before in
     room-told (given s) (s .args .job) (s .args .procedure) (now (s .args .keys)) (s .args .n) (s .pre .1) _ (needing (c .before)) _ (c .lacking .ensures)
 
 pub judge-list-spec : {M : Type 1} → statement M
 judge-list-spec =
     tie.close
     (tie.spec
+    meet-all-requires
     look-all-requires
     enum-known-holder
     enum-known-need

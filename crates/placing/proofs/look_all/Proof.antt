@@ -15,33 +15,38 @@ use Rattle.placing.proofs.look_all.Tie as tie
 use Rattle.placing.specs.Laws.Looking.{Left, left-held, left-more, left-over, left-start, one-more, seen-so}
 
 abbrev Inv-loop : tie.InvT-loop
-Inv-loop session tiles operations job procedure keys n need₀ i₀ need i =
+Inv-loop session tiles operations filter job procedure keys n need₀ i₀ need i =
     (i ≤ n) × (need ≤ i) × Left (ruleOf (session .rule)) (state (world session tiles operations []) .book) job procedure (take n keys) need (slice i n keys)
 
 abbrev μ-loop : tie.MeasureT-loop
-μ-loop session tiles operations job procedure keys n need₀ i₀ need i = n - i
+μ-loop session tiles operations filter job procedure keys n need₀ i₀ need i = n - i
 
 loop-holds : tie.Need-loop-holds Inv-loop μ-loop
 loop-holds c = (omega arith, omega arith, left-start _ _ _ _ _)
 
-mul-look-at : tie.Need-mul-look-at Inv-loop μ-loop
-mul-look-at c = omega arith
+mul-key : tie.Need-mul-key Inv-loop μ-loop
+mul-key c = omega arith
 
-shared-slice-read-look-at : tie.Need-shared-slice-read-look-at Inv-loop μ-loop
-shared-slice-read-look-at c = omega arith
+shared-slice-read-key : tie.Need-shared-slice-read-key Inv-loop μ-loop
+shared-slice-read-key c = omega arith
 
-look-at-requires : tie.Need-look-at-requires Inv-loop μ-loop
-look-at-requires c κs = c .before .before .before .before .before .before .pre .0
+is-met-requires : tie.Need-is-met-requires Inv-loop μ-loop
+is-met-requires c κs = search needs
+
+look-past-requires : tie.Need-look-past-requires Inv-loop μ-loop
+look-past-requires c κs =
+    let s = c .before .before .before .before .before .before .before in
+    (s .pre .0, c .is-met .ensures (take (s .args .session .operations) (now (s .args .operations))) (s .pre .4))
 
 enum-known-holder : tie.Need-enum-known-holder Inv-loop μ-loop
 enum-known-holder c = search needs
 
 returns : tie.Need-returns Inv-loop μ-loop
 returns c =
-    let l = c .before .before .before .before .before .before .loop in
-    let s = c .before .before .before .before .before .before .before .before .before .before in
+    let l = c .before .before .before .before .before .before .before .loop in
+    let s = c .before .before .before .before .before .before .before .before .before .before .before in
     left-held (now (s .args .keys)) (s .args .n) (l .i) (l .inv .2) (s .pre .1) (omega arith) _
-    (seen-so _ _ _ _ _ _ _ (c .before .before .before .look-at .ensures) (c .before .holder .given .1))
+    (seen-so _ _ _ _ _ _ _ (c .before .before .before .look-past .ensures) (c .before .holder .given .1))
 
 enum-known-needs : tie.Need-enum-known-needs Inv-loop μ-loop
 enum-known-needs c = search needs
@@ -57,15 +62,15 @@ loop-less c = omega arith
 
 loop-again : tie.Need-loop-again Inv-loop μ-loop
 loop-again c =
-    let l = c .before .before .before .before .before .before .before .loop in
-    let s = c .before .before .before .before .before .before .before .before .before .before .before in
+    let l = c .before .before .before .before .before .before .before .before .loop in
+    let s = c .before .before .before .before .before .before .before .before .before .before .before .before in
     let needs = c .before .before .needs .given .0 .0 in
     let more : c .more .result ≡ l .need + oneIf needs = c .more .ensures in
     let small = one-more needs in (
       omega arith,
       omega arith,
       left-more (now (s .args .keys)) (s .args .n) (l .i) (l .inv .2) (s .pre .1) (omega arith) needs _
-          (seen-so _ _ _ _ _ _ _ (c .before .before .before .before .look-at .ensures) (c .before .before .needs .given .1)) more,
+          (seen-so _ _ _ _ _ _ _ (c .before .before .before .before .look-past .ensures) (c .before .before .needs .given .1)) more,
     )
 
 returns-2 : tie.Need-returns-2 Inv-loop μ-loop
@@ -81,9 +86,10 @@ look-all-spec =
     Inv-loop
     μ-loop
     loop-holds
-    mul-look-at
-    shared-slice-read-look-at
-    look-at-requires
+    mul-key
+    shared-slice-read-key
+    is-met-requires
+    look-past-requires
     enum-known-holder
     returns
     enum-known-needs

@@ -1,18 +1,25 @@
 -- From turn to turn of the pass that decides
-use mathlib.Core.Bool.{Bool, false, true}
-use mathlib.Core.List.{List, [], _∷_}
+use mathlib.Core.Bool.{Bool, _&&_, and-false, and-true, false, not, true}
+use mathlib.Core.List.{List, [], _∷_, map}
 use mathlib.Core.Option.{Option, none, some}
 use mathlib.Core.Path.{_∙_, _≡_, ap, refl, subst, sym}
 use Prim.Native.Nat.{_+_, _<_, _≤_, ℕ}
 use native.Mathlib.Omega.{arith}
+use lib.Dec.{eqb}
 use lib.ListN.{getD, length}
 use lib.Seq.{slice}
+use borrow.Author.Tests.{eqb-false, not-true}
 use Rattle.lists.specs.Lists.{slice-end, slice-next}
-use Rattle.lists.specs.Truth.{oneIf}
-use Rattle.strict.specs.Book.{Book, heldBy, needsPlace}
-use Rattle.strict.specs.Operations.{begun}
-use Rattle.strict.specs.Strict.{Rule}
+use Rattle.lists.specs.Truth.{both, both-false, oneIf}
+use Rattle.scans.specs.Tests.{elsewhere}
+use Rattle.service.specs.Entry.{keyIn, opIn}
+use Rattle.strict.specs.Book.{Book, deleted, heldBy, needsPlace}
+use Rattle.strict.specs.Commutativity.{holder}
+use Rattle.strict.specs.Operations.{Op, begun, kind}
+use Rattle.strict.specs.Strict.{Rule, alone, together}
+use Rattle.strict.specs.Tiles.{member}
 use Rattle.strict.specs.declared.Procedure.{Procedure}
+use Rattle.rectangles.specs.Laws.Apart.{holds-not}
 use Rattle.rectangles.specs.Rectangles.{firstHeld, firstOf, needed}
 use Rattle.placing.specs.Passes.{listBy, listOf, lookBy, lookOf}
 use Rattle.placing.specs.declared.Seen.{Seen}
@@ -44,6 +51,30 @@ module _ (b : Rule) (m : Book) (job : ℕ) (p : Procedure) (k : ℕ) where
 
   pub seen-so : (v u : Seen) → v ≡ lookOf b m job p k → v ≡ u → Sees b m job p k u
   seen-so v u is seen = subst (Sees b m job p k) (sym is ∙ seen) sees
+
+-- A TILE THAT NO ENTRY HAS is held by nobody, and needs a place just where it is inserted and absent
+none-there : (b : Rule) (o : Op) (es : List ℕ) → elsewhere (o .key) es ≡ true → holder b o (map opIn es) ≡ none
+none-there b o [] h = refl
+none-there b o (e ∷ es) h =
+    let two = both (not (eqb (o .key) (keyIn e))) (elsewhere (o .key) es) h in
+    rw (holds-not b o (opIn e) (eqb-false (o .key) (keyIn e) (not-true (eqb (o .key) (keyIn e)) (two .0)))) (none-there b o es (two .1))
+
+none-deleted : (k : ℕ) (es : List ℕ) → elsewhere k es ≡ true → deleted k (map opIn es) ≡ false
+none-deleted k [] h = refl
+none-deleted k (e ∷ es) h =
+    let two = both (not (eqb k (keyIn e))) (elsewhere k es) h in
+    let three = eqb (kind (opIn e .proc) (opIn e .found)) 3 in
+    both-false (ap (λ b. three && b) (not-true (eqb k (keyIn e)) (two .0)) ∙ and-false three) (none-deleted k es (two .1))
+
+place-there : (b : Rule) (us : List Op) (o : Op) → deleted (o .key) us ≡ false → needsPlace b us o ≡ eqb (kind (o .proc) (o .found)) 1
+place-there alone us o h = refl
+place-there together us o h = rw h (and-true _)
+
+pub apart-free : (b : Rule) (t es : List ℕ) (job : ℕ) (p : Procedure) (k : ℕ) → elsewhere k es ≡ true
+    → look.Free (eqb (kind p (member k t)) 1) ≡ lookOf b (record { tiles = t; table = map opIn es }) job p k
+apart-free b t es job p k h =
+    let o = begun job p k t in
+    free b (record { tiles = t; table = map opIn es }) job p k _ (none-there b o es h) (place-there b (map opIn es) o (none-deleted k es h))
 
 pub one-more : (b : Bool) → oneIf b ≤ 1
 one-more true = omega arith

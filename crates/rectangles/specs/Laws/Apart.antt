@@ -23,7 +23,7 @@ use Rattle.strict.specs.declared.Procedure.{Procedure}
 use Rattle.rectangles.specs.Rectangles.{firstHeld, firstOf, needed}
 
 -- an entry on another tile holds nothing
-holds-not : (r : Rule) (o u : Op) → o .key ≢ u .key → holds r o u ≡ false
+pub holds-not : (r : Rule) (o u : Op) → o .key ≢ u .key → holds r o u ≡ false
 holds-not alone o u d = ap (λ b. not (commutes (kind (o .proc) (o .found)) (inverse u) b)) (ne-eqb (o .key) (u .key) d) ∙ ap not (go (inverse u))
   where
     go : (s : Step) → commutes (kind (o .proc) (o .found)) s false ≡ true
