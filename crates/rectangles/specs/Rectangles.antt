@@ -42,16 +42,16 @@ abbrev pub area : Rectangle → ℕ
 area r = width r * height r
 
 -- f i, f (i + 1), and so on: n of them
-abbrev pub counted : {A : Type 0} → (ℕ → A) → ℕ → ℕ → List A
-counted f i zero = []
-counted f i (suc n) = f i ∷ counted f (suc i) n
+abbrev pub sequence : {A : Type 0} → (ℕ → A) → ℕ → ℕ → List A
+sequence f i zero = []
+sequence f i (suc n) = f i ∷ sequence f (suc i) n
 
 -- west to east, each column from top to bottom
 abbrev pub tileAt : Rectangle → ℕ → Address
 tileAt r i = record { zoom = r .zoom; column = r .west +ℤ pos (i / height r); row = r .top +ℤ pos (i % height r) }
 
 abbrev pub listed : Rectangle → List Address
-listed r = counted (tileAt r) 0 (area r)
+listed r = sequence (tileAt r) 0 (area r)
 
 abbrev pub keyFor : Address → ℕ
 keyFor a = addressCall a .key

@@ -30,7 +30,7 @@ use Rattle.rectangles.specs.Claims.{AllDone, Apart, Before, FirstHeld, F
 use Rattle.rectangles.specs.Laws.Demanding.{rectangle-accepted, rectangle-held, rectangle-room-just}
 use Rattle.rectangles.specs.Laws.Judging.{told-first, told-five, told-held, told-room, told-thirteen}
 use Rattle.rectangles.specs.Laws.Keeping.{all-keep, all-write}
-use Rattle.rectangles.specs.Laws.Listing.{length-counted, span-within, within-span}
+use Rattle.rectangles.specs.Laws.Listing.{length-sequence, span-within, within-span}
 use Rattle.rectangles.specs.Laws.Tiles.{all-apart, in-order, listed-exactly}
 use Rattle.rectangles.specs.Laws.Whole.{done-shaped, rectangle-ready, moves-written, told-among, whole-done, whole-leaves}
 use Rattle.rectangles.specs.Rectangles.{carriedAll, height, keys, listed, outOfRange, procedureFor, rectangleCall, ruledBy, span, tileAt, width}
@@ -49,7 +49,7 @@ span-exact a b c = (
 -- every tile of the rectangle, each once, and no other
 pub rectangle-lists-once : (r : Rectangle) → Shaped r
     → (length (listed r) ≡ width r * height r) × Apart (keys (listed r)) × ((k : ℕ) → (member k (keys (listed r)) ≡ true) ↔ Inside r k)
-rectangle-lists-once r s = (length-counted (tileAt r) 0 (width r * height r), all-apart r s, listed-exactly r s)
+rectangle-lists-once r s = (length-sequence (tileAt r) 0 (width r * height r), all-apart r s, listed-exactly r s)
 
 -- west to east, each column from top to bottom
 pub rectangle-in-order : (r : Rectangle) → Shaped r → (i j : ℕ) → i < j → j < width r * height r → Before (tileAt r i) (tileAt r j)

@@ -125,7 +125,7 @@ fn key_at(zoom: u8, columns: u32, first: u32, north: u32, height: u32, i: u32) -
 fn list_keys(zoom: u8, columns: u32, first: u32, north: u32, height: u32, n: u32, keys: &mut [u32])
     requires { ⌜ Steps zoom columns first north height × (n ≤ 256) × (n ≤ length (now keys)) ⌝ }
     ensures { λ _. ⌜ (length (now (keys .exit)) ≡ length (now (keys .entry)))
-        × (take n (now (keys .exit)) ≡ report.counted (stepped zoom columns first north height) 0 n) ⌝ }
+        × (take n (now (keys .exit)) ≡ report.sequence (stepped zoom columns first north height) 0 n) ⌝ }
 {
     let mut i: u32 = 0;
     while i < n {

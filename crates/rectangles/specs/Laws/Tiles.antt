@@ -18,8 +18,8 @@ use Rattle.service.specs.Tile.{around, keyAt, keyOf, packKey, placedAt}
 use Rattle.service.specs.declared.Address.{Address}
 use Rattle.rectangles.specs.Claims.{Apart, Before, Inside, Shaped}
 use Rattle.rectangles.specs.Fitting.{Placed}
-use Rattle.rectangles.specs.Laws.Listing.{all-counted, apart-counted, around-add, columns-apart, counted-member, further, map-counted, member-counted, span-within, within-span}
-use Rattle.rectangles.specs.Rectangles.{area, counted, height, keyFor, keys, listed, span, tileAt, unplaced, width}
+use Rattle.rectangles.specs.Laws.Listing.{all-sequence, apart-sequence, around-add, columns-apart, further, map-sequence, member-sequence, sequence-member, span-within, within-span}
+use Rattle.rectangles.specs.Rectangles.{area, height, keyFor, keys, listed, sequence, span, tileAt, unplaced, width}
 use Rattle.rectangles.specs.declared.Rectangle.{Rectangle}
 
 -- an address that 5 does not refuse has a key
@@ -111,13 +111,13 @@ module _ (r : Rectangle) (s : Shaped r) where
       ∙ ap (λ x. packKey (r .zoom) x (e .north + i % height r)) (around-add (r .west) (i / height r) (2 ^ (r .zoom)) (pow-pos (r .zoom)))
 
   pub all-placed : Placed (listed r)
-  all-placed = all-counted (tileAt r) (λ a. unplaced a ≡ false) 0 (area r) (λ i l u. tile-placed i)
+  all-placed = all-sequence (tileAt r) (λ a. unplaced a ≡ false) 0 (area r) (λ i l u. tile-placed i)
 
   abbrev keyOn : ℕ → ℕ
   keyOn i = keyFor (tileAt r i)
 
-  keys-are : keys (listed r) ≡ counted keyOn 0 (area r)
-  keys-are = map-counted (tileAt r) keyFor 0 (area r)
+  keys-are : keys (listed r) ≡ sequence keyOn 0 (area r)
+  keys-are = map-sequence (tileAt r) keyFor 0 (area r)
 
   -- two tiles of the list have two keys
   keys-differ : (i j : ℕ) → i < j → j < area r → keyOn i ≢ keyOn j
@@ -152,12 +152,12 @@ module _ (r : Rectangle) (s : Shaped r) where
               (let c = column-in i (omega arith) in let o = e .once-round in omega arith) (sym (both-parts .1))
 
   pub all-apart : Apart (keys (listed r))
-  all-apart = subst Apart (sym keys-are) (apart-counted keyOn 0 (area r) (λ i j l u. keys-differ i j l (omega arith)))
+  all-apart = subst Apart (sym keys-are) (apart-sequence keyOn 0 (area r) (λ i j l u. keys-differ i j l (omega arith)))
 
   -- the list has the tiles of the rectangle, and no other
   listed-inside : (k : ℕ) → member k (keys (listed r)) ≡ true → Inside r k
   listed-inside k m =
-      let x = member-counted keyOn k 0 (area r) (subst (λ l. member k l ≡ true) keys-are m) in
+      let x = member-sequence keyOn k 0 (area r) (subst (λ l. member k l ≡ true) keys-are m) in
       let i = x .0 in
       let across = within-span (r .west) (r .east) (i / height r) (column-in i (let l = x .2 in omega arith)) in
       let down = within-span (r .top) (r .bottom) (i % height r) (row-in i) in
@@ -187,7 +187,7 @@ module _ (r : Rectangle) (s : Shaped r) where
       ∙ ap₂ (λ a b. keyAt (r .zoom) a b) (sym (across .2)) (sym (down .2)) ∙ d .has-key in
       let same-key : keyOn i ≡ k = let a = tile-keyed i in cc in
       subst (λ n. member n (keys (listed r)) ≡ true) same-key
-      (subst (λ l. member (keyOn i) l ≡ true) (sym keys-are) (counted-member keyOn i 0 (area r) (omega arith) (omega arith)))
+      (subst (λ l. member (keyOn i) l ≡ true) (sym keys-are) (sequence-member keyOn i 0 (area r) (omega arith) (omega arith)))
 
   pub listed-exactly : (k : ℕ) → (member k (keys (listed r)) ≡ true) ↔ Inside r k
   listed-exactly k = (listed-inside k, inside-listed k)

@@ -25,7 +25,7 @@ use Rattle.rectangles.specs.Claims.{AllDone, FromMoves, Move, Ready, Sha
 use Rattle.rectangles.specs.Fitting.{Fits}
 use Rattle.rectangles.specs.Laws.Fitting.{done-fits, done-ready, fits-done, none-applies}
 use Rattle.rectangles.specs.Laws.Tiles.{all-apart, all-placed, extent}
-use Rattle.rectangles.specs.Rectangles.{area, carriedAll, counted, firstHeld, keys, listRefusals, listed, procedureFor, rectangleCall, rectangleRefusals, ruledBy, tileAt}
+use Rattle.rectangles.specs.Rectangles.{area, carriedAll, firstHeld, keys, listRefusals, listed, procedureFor, rectangleCall, rectangleRefusals, ruledBy, sequence, tileAt}
 use Rattle.rectangles.specs.declared.Change.{Change}
 use Rattle.rectangles.specs.declared.Rectangle.{Rectangle}
 
@@ -108,7 +108,7 @@ module _ (w : World) (job : ℕ) (change : Change) (r : Rectangle) where
     not-empty : AllDone w (callsOf job change r) → Ready w job
     not-empty = go (area r) (mul-le-mul (extent r s .wide) (extent r s .tall))
       where
-        go : (n : ℕ) → 1 ≤ n → AllDone w (operations job p (counted (tileAt r) 0 n)) → Ready w job
+        go : (n : ℕ) → 1 ≤ n → AllDone w (operations job p (sequence (tileAt r) 0 n)) → Ready w job
         go zero l d = absurd (omega arith)
         go (suc n) l d = done-ready w job p (tileAt r 0) (d .0)
 

@@ -11,7 +11,7 @@ use Rattle.shapes.specs.Laws.Listed.{stored-more}
 
 abbrev Inv-loop : tie.InvT-loop
 Inv-loop zoom columns first north height n keys₀ i₀ keys i =
-    (i ≤ n) × (length keys ≡ length keys₀) × (take i keys ≡ shape.counted (stepped zoom columns first north height) 0 i)
+    (i ≤ n) × (length keys ≡ length keys₀) × (take i keys ≡ shape.sequence (stepped zoom columns first north height) 0 i)
 
 abbrev μ-loop : tie.MeasureT-loop
 μ-loop zoom columns first north height n keys₀ i₀ keys i = n - i

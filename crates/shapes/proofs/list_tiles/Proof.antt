@@ -1,7 +1,7 @@
 -- `shapes::list_tiles` meets its contract: by steps from the corner
 use mathlib.Core.Path.{_∙_, ap, subst, sym}
 use borrow.Author.Needs.{needs}
-use Rattle.rectangles.specs.Rectangles.{counted}
+use Rattle.rectangles.specs.Rectangles.{sequence}
 use Rattle.service.specs.Tile.{columnIn, rowIn}
 use Rattle.shapes.proofs.list_tiles.Statement.{statement}
 use Rattle.shapes.proofs.list_tiles.Tie as tie
@@ -30,7 +30,7 @@ returns c =
     let e = c .before .before .list-keys .ensures in (
       e .0,
       e .1
-          ∙ ap (λ x. counted (stepped (a .r .zoom) x (columnIn (a .corner)) (rowIn (a .corner)) (a .height)) 0 (a .n)) (c .before .before .before .before .columns-of .ensures)
+          ∙ ap (λ x. sequence (stepped (a .r .zoom) x (columnIn (a .corner)) (rowIn (a .corner)) (a .height)) 0 (a .n)) (c .before .before .before .before .columns-of .ensures)
           ∙ shape-list (a .r) (a .corner) (a .height) (a .n) (s .pre .0),
     )
 

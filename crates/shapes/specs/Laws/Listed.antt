@@ -18,9 +18,9 @@ use Rattle.lists.specs.Truth.{or-left, or-right}
 use Rattle.service.specs.Laws.Keys.{address-key, around-lt, column-back, keyed-at, row-back, size-le}
 use Rattle.service.specs.Tile.{around, columnIn, isKey, keyAt, keyOf, packKey, rowIn}
 use Rattle.rectangles.specs.Claims.{Shaped}
-use Rattle.rectangles.specs.Laws.Listing.{all-counted, map-counted}
+use Rattle.rectangles.specs.Laws.Listing.{all-sequence, map-sequence}
 use Rattle.rectangles.specs.Laws.Tiles.{Extent, extent, key-stepped, placed-key, tile-placed}
-use Rattle.rectangles.specs.Rectangles.{area, counted, height, keyFor, keys, listed, span, tileAt, unplaced, width}
+use Rattle.rectangles.specs.Rectangles.{area, height, keyFor, keys, listed, sequence, span, tileAt, unplaced, width}
 use Rattle.rectangles.specs.declared.Rectangle.{Rectangle}
 use Rattle.shapes.specs.Shaping.{Shapes, Steps, cornerAt, stepped}
 use Rattle.shapes.specs.declared.Shape.the-variants.{Fine}
@@ -36,19 +36,19 @@ bounds zoom columns first north height i s =
     record { across = div-le-self i height; column = mod-lt (first + i / height) (s .some-columns); down = mod-lt i (s .tall) }
 
 module _ {A : Type 0} (f : ℕ → A) where
-  counted-last : (i n : ℕ) → counted f i (suc n) ≡ counted f i n ++ (f (i + n) ∷ [])
-  counted-last i zero = ap {B = List A} (λ j. f j ∷ []) (omega arith)
-  counted-last i (suc n) = ap {B = List A} (λ l. f i ∷ l) (counted-last (suc i) n ∙ ap (λ j. counted f (suc i) n ++ (f j ∷ [])) (omega arith))
+  sequence-last : (i n : ℕ) → sequence f i (suc n) ≡ sequence f i n ++ (f (i + n) ∷ [])
+  sequence-last i zero = ap {B = List A} (λ j. f j ∷ []) (omega arith)
+  sequence-last i (suc n) = ap {B = List A} (λ l. f i ∷ l) (sequence-last (suc i) n ∙ ap (λ j. sequence f (suc i) n ++ (f j ∷ [])) (omega arith))
 
 -- one more key is stored
-pub stored-more : (f : ℕ → ℕ) (keys : List ℕ) (i v : ℕ) → i < length keys → take i keys ≡ counted f 0 i → v ≡ f i → take (i + 1) (set keys i v) ≡ counted f 0 (i + 1)
+pub stored-more : (f : ℕ → ℕ) (keys : List ℕ) (i v : ℕ) → i < length keys → take i keys ≡ sequence f 0 i → v ≡ f i → take (i + 1) (set keys i v) ≡ sequence f 0 (i + 1)
 stored-more f keys i v l e is =
-    rw add-one (take-suc-set keys i v l ∙ ap₂ (λ x y. x ++ (y ∷ [])) e (is ∙ ap f (omega arith)) ∙ sym (counted-last f 0 i))
+    rw add-one (take-suc-set keys i v l ∙ ap₂ (λ x y. x ++ (y ∷ [])) e (is ∙ ap f (omega arith)) ∙ sym (sequence-last f 0 i))
 
 -- THE LIST OF A RECTANGLE
-counted-same : {A : Type 0} (f g : ℕ → A) → ((i : ℕ) → f i ≡ g i) → (i n : ℕ) → counted f i n ≡ counted g i n
-counted-same f g e i zero = refl
-counted-same {A} f g e i (suc n) = ap₂ {C = List A} (λ x xs. x ∷ xs) (e i) (counted-same f g e (suc i) n)
+sequence-same : {A : Type 0} (f g : ℕ → A) → ((i : ℕ) → f i ≡ g i) → (i n : ℕ) → sequence f i n ≡ sequence g i n
+sequence-same f g e i zero = refl
+sequence-same {A} f g e i (suc n) = ap₂ {C = List A} (λ x xs. x ∷ xs) (e i) (sequence-same f g e (suc i) n)
 
 module _ (r : Rectangle) (s : Shaped r) where
   abbrev corner : ℕ
@@ -86,17 +86,17 @@ module _ (r : Rectangle) (s : Shaped r) where
         rows-inside = omega arith;
       }
 
-  list-of : counted (stepped (r .zoom) (2 ^ (r .zoom)) (columnIn corner) (rowIn corner) (height r)) 0 (area r) ≡ keys (listed r)
+  list-of : sequence (stepped (r .zoom) (2 ^ (r .zoom)) (columnIn corner) (rowIn corner) (height r)) 0 (area r) ≡ keys (listed r)
   list-of =
       sym
-      (map-counted (tileAt r) keyFor 0 (area r)
-      ∙ counted-same (λ i. keyFor (tileAt r i)) (stepped (r .zoom) (2 ^ (r .zoom)) (columnIn corner) (rowIn corner) (height r))
+      (map-sequence (tileAt r) keyFor 0 (area r)
+      ∙ sequence-same (λ i. keyFor (tileAt r i)) (stepped (r .zoom) (2 ^ (r .zoom)) (columnIn corner) (rowIn corner) (height r))
       (λ i. key-stepped r s i ∙ sym (λ j. packKey (r .zoom) ((column-is j + i / height r) % (2 ^ (r .zoom))) (row-is j + i % height r))) 0 (area r))
 
   pub all-valid : All (λ k. isKey k ≡ true) (keys (listed r))
   all-valid =
-      subst (All (λ k. isKey k ≡ true)) (sym (map-counted (tileAt r) keyFor 0 (area r)))
-      (all-counted (λ i. keyFor (tileAt r i)) (λ k. isKey k ≡ true) 0 (area r) (λ i l u. address-key (tileAt r i) (tile-placed r s i)))
+      subst (All (λ k. isKey k ≡ true)) (sym (map-sequence (tileAt r) keyFor 0 (area r)))
+      (all-sequence (λ i. keyFor (tileAt r i)) (λ k. isKey k ≡ true) 0 (area r) (λ i l u. address-key (tileAt r i) (tile-placed r s i)))
 
   pub few-tiles : area r ≤ 256
   few-tiles =
@@ -113,6 +113,6 @@ module _ (r : Rectangle) (c h n : ℕ) (f : Shapes r (Fine c h n)) where
   pub shape-few : n ≤ 256
   shape-few = let e = f .3 in let l = few-tiles r (f .0) in omega arith
 
-  pub shape-list : counted (stepped (r .zoom) (2 ^ (r .zoom)) (columnIn c) (rowIn c) h) 0 n ≡ keys (listed r)
+  pub shape-list : sequence (stepped (r .zoom) (2 ^ (r .zoom)) (columnIn c) (rowIn c) h) 0 n ≡ keys (listed r)
   shape-list =
-      (λ i. counted (stepped (r .zoom) (2 ^ (r .zoom)) (columnIn (f .1 i)) (rowIn (f .1 i)) (f .2 i)) 0 (f .3 i)) ∙ list-of r (f .0)
+      (λ i. sequence (stepped (r .zoom) (2 ^ (r .zoom)) (columnIn (f .1 i)) (rowIn (f .1 i)) (f .2 i)) 0 (f .3 i)) ∙ list-of r (f .0)
