@@ -13,8 +13,8 @@ use Rattle.lists.specs.Lists.{All}
 use Rattle.lists.specs.Truth.{by-cond}
 use Rattle.service.specs.Admission.{perform}
 use Rattle.service.specs.Calls.{holding, padded}
-use Rattle.service.specs.Entry.{entryOf, foundOfKind, jobIn, keyIn, kindIn, opIn, packEntry, procedureOfKind}
-use Rattle.service.specs.Laws.Entries.{by-kind}
+use Rattle.service.specs.Entry.{entryOf, jobIn, keyIn, kindIn, opIn, packEntry}
+use Rattle.service.specs.Laws.Entries.{entries-back}
 use Rattle.service.specs.Laws.Standing.{Stands, stands-perform}
 use Rattle.service.specs.Laws.Storing.{tabled-stands}
 use Rattle.service.specs.Replay.{ruled}
@@ -30,17 +30,7 @@ use Rattle.strict.specs.declared.Procedure.{Procedure}
 use Rattle.engine.specs.Events.{Ready, closed, governed, opened}
 use Rattle.engine.specs.Undoing.{recovered, undone}
 
--- ENTRIES, WRITTEN BACK
-entry-back : (marks : List Bool) (e : ℕ) → Entry marks e → entryOf (opIn e) ≡ e
-entry-back marks e h =
-    let n : kind (procedureOfKind (kindIn e)) (foundOfKind (kindIn e)) ≡ kindIn e =
-    by-kind (λ n. kind (procedureOfKind n) (foundOfKind n) ≡ n) refl refl refl refl refl refl (kindIn e) (h .kind-low) (h .kind-high) in
-    ap (λ n. packEntry n (jobIn e) (keyIn e)) n ∙ omega arith
-
-entries-back : (marks : List Bool) (es : List ℕ) → All (Entry marks) es → map entryOf (map opIn es) ≡ es
-entries-back marks [] h = refl
-entries-back marks (e ∷ es) h = ap₂ {C = List ℕ} (λ y ys. y ∷ ys) (entry-back marks e (h .0)) (entries-back marks es (h .1))
-
+-- ENTRIES
 entries-without : (marks : List Bool) (job : ℕ) (es : List ℕ) → All (Entry marks) es → All (Entry marks) (withoutJob job es)
 entries-without marks job [] h = tt
 entries-without marks job (e ∷ es) h =

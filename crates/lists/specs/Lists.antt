@@ -1,12 +1,12 @@
 -- Tests of all members of a list, and what they say
 use mathlib.Core.Bool.{Bool, _&&_, true}
-use mathlib.Core.List.{List, [], _∷_}
-use mathlib.Core.Path.{_≡_, refl}
-use Prim.Native.Nat.{_+_, _<_, _≤_, ℕ}
+use mathlib.Core.List.{List, [], _++_, _∷_}
+use mathlib.Core.Path.{_∙_, _≡_, ap, refl}
+use Prim.Native.Nat.{_+_, _<_, _≤_, suc, ℕ}
 use native.Mathlib.Numerals.{add-one}
 use native.Mathlib.Omega.{arith}
-use lib.ListN.{drop-of-length-le, getD, length, length-take, take}
-use lib.Seq.{slice, slice-cons}
+use lib.ListN.{drop-of-length-le, getD, length, length-take, set, take}
+use lib.Seq.{sets, slice, slice-cons}
 use Rattle.lists.specs.Truth.{and-both, both}
 
 abbrev pub all : {A : Type 0} → (A → Bool) → List A → Bool
@@ -33,3 +33,10 @@ module _ (l : List ℕ) (n i : ℕ) where
 
   pub slice-next : n ≤ length l → i < n → slice i n l ≡ getD l i 0 ∷ slice (i + 1) n l
   slice-next fits inside = rw add-one (slice-cons i n l 0 inside fits)
+
+-- what is written behind what was written is written with it
+pub sets-sets : (l : List ℕ) (i : ℕ) (xs ys : List ℕ) → sets (sets l i xs) (i + length xs) ys ≡ sets l i (xs ++ ys)
+sets-sets l i [] ys = let e : i + 0 ≡ i = omega arith in ap (λ n. sets l n ys) e
+sets-sets l i (x ∷ xs) ys =
+    let e : i + suc (length xs) ≡ suc i + length xs = omega arith in
+    ap (λ n. sets (sets (set l i x) (suc i) xs) n ys) e ∙ sets-sets (set l i x) (suc i) xs ys
