@@ -74,7 +74,8 @@ fn small_journal(writer: &mut Writer) {
     calls::read_everywhere(writer);
 }
 
-/// Every job is opened, as far as the journal reaches, and most of them end again.
+/// Every job is opened, as far as the journal reaches, and most of them end again, in an order
+/// that neither rises nor falls.
 fn crowd(writer: &mut Writer) {
     let pool = Pool::few(&mut writer.random);
     let journal = writer.random.pick(&[500, 511, 512, 513, 540, 900]);
@@ -83,9 +84,10 @@ fn crowd(writer: &mut Writer) {
         writer.tell(format!("open {}", job));
     }
     calls::run(writer, &pool, 20);
-    for job in 0..60 {
+    let first = writer.random.below(60);
+    for step in 0..60 {
         let word = writer.random.pick(&["commit", "abort"]);
-        writer.tell(format!("{} {}", word, job));
+        writer.tell(format!("{} {}", word, (first + 7 * step) % 60));
     }
     calls::run(writer, &pool, 10);
 }
