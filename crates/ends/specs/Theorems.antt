@@ -30,8 +30,8 @@ use Rattle.ends.specs.Laws.Orders.{either-first}
 use Rattle.ends.specs.Laws.Worlds.{all-left, group-same, journal-left, same-bytes, same-number, states-same}
 
 -- the session that holds a state, with so many journal bytes more
-abbrev counted : World → State → ℕ → Session
-counted w s n = record { rule = s .rule; marks = s .marks; tiles = length (s .book .tiles); operations = length (s .book .table); journal = w .session .journal + n }
+abbrev sessionOf : World → State → ℕ → Session
+sessionOf w s n = record { rule = s .rule; marks = s .marks; tiles = length (s .book .tiles); operations = length (s .book .table); journal = w .session .journal + n }
 
 -- From every sound world with its 64 marks, however it came about and by either rule. What is needed: that the jobs differ and are open (edits of `Group`);
 -- soundness, for an end of a world that is not sound is refused by 1, and two aborts may then leave different tiles (`needs-soundness`); and the 64
@@ -48,7 +48,7 @@ ends-in-any-order w es fs full sound g r =
       fs-done = b .done-so;
       same-tiles = ap (λ (v : World). v .tiles) (a .left-so) ∙ ap (λ x. stored w x (endRecords es) .tiles) s ∙ ap (λ (v : World). v .tiles) (sym (b .left-so));
       same-operations = ap (λ (v : World). v .operations) (a .left-so) ∙ ap (λ x. stored w x (endRecords es) .operations) s ∙ ap (λ (v : World). v .operations) (sym (b .left-so));
-      same-session = ap (λ (v : World). v .session) (a .left-so) ∙ (λ i. counted w (s i) (n i)) ∙ ap (λ (v : World). v .session) (sym (b .left-so));
+      same-session = ap (λ (v : World). v .session) (a .left-so) ∙ (λ i. sessionOf w (s i) (n i)) ∙ ap (λ (v : World). v .session) (sym (b .left-so));
       es-written = journal-left w es a;
       fs-written = journal-left w fs b ∙ ap (λ n. usedJournal w ++ endRecords fs ++ behind w n) (sym (same-number r));
     }
