@@ -80,10 +80,15 @@ fn sum_with_journal(before: u64, journal: &[u8]) -> u64
     sum
 }
 
-// The marks, the three counts and every place of each table, in this order.
+// The marks, the three counts, the rule and every place of each table, in this order.
 pub fn sum(session: Session, tiles: &[u32], operations: &[u64], journal: &[u8]) -> u64 {
     let marked = sum_of_session(session);
     let tiled = sum_with_tiles(marked, tiles);
     let tabled = sum_with_operations(tiled, operations);
     sum_with_journal(tabled, journal)
+}
+
+// Every byte, in order.
+pub fn sum_of_bytes(bytes: &[u8]) -> u64 {
+    sum_with_journal(0, bytes)
 }

@@ -1,5 +1,6 @@
 // Tries the rules by hand: reads commands from standard input, one to a line, and answers each. docs/CONSOLE.md has the answers.
 ghost use Rattle.console.specs.Lent.{Lent};
+use mends::Mended;
 use rectangles::Change;
 use rectangles::Rectangle;
 use script::Command;
@@ -48,6 +49,10 @@ fn first(command: Command) -> usize {
 
 fn second(command: Command) -> usize {
     command.values[1] as usize
+}
+
+fn third(command: Command) -> usize {
+    command.values[2] as usize
 }
 
 fn signed(value: u64, negative: bool) -> i32 {
@@ -240,6 +245,74 @@ fn run_replay(
     print_replayed(sanbirogu::replay(&journal[..length], tiles, count, operations));
 }
 
+fn print_mended(mended: Mended, sum: u64) {
+    let reply = mended.reply;
+    print(b"reply ");
+    print_number(mending::mend_number(reply) as u64);
+    print(b" length ");
+    print_number(mended.size as u64);
+    print(b" left ");
+    print_number(mended.omitted as u64);
+    print(b" aborted ");
+    print_number(mended.aborted as u64);
+    print(b" count ");
+    print_number(mended.tiles as u64);
+    print(b" sum ");
+    print_number(sum);
+    print(b"\n");
+}
+
+fn mend_into(
+    tiles: &mut [u32],
+    operations: &mut [u64],
+    journal: &[u8],
+    count: usize,
+    output: &mut [u8],
+) {
+    let mended = sanbirogu::mend(journal, tiles, count, operations, output);
+    print_mended(mended, checksum::sum_of_bytes(output));
+}
+
+// The same into the first bytes of an output, if it has so many.
+fn mend_within(
+    tiles: &mut [u32],
+    operations: &mut [u64],
+    journal: &[u8],
+    count: usize,
+    output: &mut [u8],
+    room: usize,
+) {
+    if output.len() < room {
+        refuse();
+        return;
+    }
+    mend_into(tiles, operations, journal, count, &mut output[..room]);
+}
+
+// An output is lent whose bytes all hold 255 before.
+fn run_mend(
+    tiles: &mut [u32],
+    operations: &mut [u64],
+    journal: &[u8],
+    count: usize,
+    length: usize,
+    room: usize,
+) {
+    if journal.len() < length {
+        refuse();
+        return;
+    }
+    let mut output = [255u8; 66000];
+    mend_within(
+        tiles,
+        operations,
+        &journal[..length],
+        count,
+        &mut output,
+        room,
+    );
+}
+
 // FROM OUTSIDE, as something that is not the service would
 
 fn put_tile(tiles: &mut [u32], place: usize, key: u32) {
@@ -396,6 +469,14 @@ fn look(
         Word::Address => print_address(lone_address(command)),
         Word::Read => read(session, journal, first(command)),
         Word::Replay => run_replay(tiles, operations, journal, first(command), second(command)),
+        Word::Mend => run_mend(
+            tiles,
+            operations,
+            journal,
+            first(command),
+            second(command),
+            third(command),
+        ),
         Word::Sum => print_sum(checksum::sum(session, tiles, operations, journal)),
         Word::Show => picture::show(session, tiles, operations, journal),
         _ => return change(command, session, tiles, operations, journal),
@@ -466,7 +547,7 @@ fn lend(
 {
     let t = first(command);
     let o = second(command);
-    let j = command.values[2] as usize;
+    let j = third(command);
     if tiles.len() < t || operations.len() < o || journal.len() < j {
         refuse();
         return desk;

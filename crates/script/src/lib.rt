@@ -16,6 +16,7 @@ pub enum Word {
     Address,
     Read,
     Replay,
+    Mend,
     Sum,
     Show,
     Tile,
@@ -93,6 +94,9 @@ fn call_word(line: &[u8], end: usize) -> Word {
     if is_word(line, end, b"replay") {
         return Word::Replay;
     }
+    if is_word(line, end, b"mend") {
+        return Word::Mend;
+    }
     if is_word(line, end, b"sum") {
         return Word::Sum;
     }
@@ -166,6 +170,7 @@ fn types_of(word: Word) -> [u8; 6] {
         Word::Address => [b'b', b's', b's', b'-', b'-', b'-'],
         Word::Read => [b'n', b'-', b'-', b'-', b'-', b'-'],
         Word::Replay => [b'n', b'n', b'-', b'-', b'-', b'-'],
+        Word::Mend => [b'n', b'n', b'n', b'-', b'-', b'-'],
         Word::Sum => [b'-', b'-', b'-', b'-', b'-', b'-'],
         Word::Show => [b'-', b'-', b'-', b'-', b'-', b'-'],
         Word::Tile => [b'n', b'n', b'-', b'-', b'-', b'-'],

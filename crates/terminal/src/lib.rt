@@ -1,7 +1,8 @@
-// What the programs share: all of standard input, and text and numbers on standard output.
+// What the programs share: all of standard input, and text and numbers on standard output and standard error.
 ghost use Prim.Native.Nat.{_-_, _≤_};
 ghost use lib.ListN.{length};
 ghost use Rattle.terminal.specs.Input.{Within};
+use libc::STDERR_FILENO;
 use libc::STDIN_FILENO;
 use libc::STDOUT_FILENO;
 
@@ -17,6 +18,14 @@ pub fn print(text: &[u8]) {
 
 pub fn print_number(n: u64) {
     io::print_decimal(STDOUT_FILENO, n);
+}
+
+pub fn complain(text: &[u8]) {
+    io::write_all(STDERR_FILENO, text);
+}
+
+pub fn complain_number(n: u64) {
+    io::print_decimal(STDERR_FILENO, n);
 }
 
 // Zoom, column and row of a key, with this between them.
