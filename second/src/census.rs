@@ -44,6 +44,7 @@ fn group_of(console: &Console, command: Command) -> String {
         Command::Address(_) => "address".to_string(),
         Command::Read(_) => "read".to_string(),
         Command::Replay(_, length) => by("replay", rule_replayed(console, length)),
+        Command::Mend(_, length, _) => by("mend", rule_replayed(console, length)),
         Command::Sum => "sum".to_string(),
         Command::Change(_) => "change".to_string(),
     }
@@ -74,7 +75,7 @@ pub fn count_script(counts: &mut Counts, seed: u64, lines: usize) {
 }
 
 fn count_command(counts: &mut Counts, console: &mut Console, command: Command, line: &[u8]) {
-    for (name, _) in occasions().filter(|(_, applies)| applies(console, command)) {
+    for name in occasions(console, command) {
         count(counts, name_of_occasion(name));
     }
     let group = group_of(console, command);
@@ -96,6 +97,7 @@ fn is_on_session(command: Command) -> bool {
         | Command::Address(_)
         | Command::Read(_)
         | Command::Replay(..)
+        | Command::Mend(..)
         | Command::Sum
         | Command::Change(_) => false,
     }
@@ -137,7 +139,7 @@ pub fn table(counts: &Counts) -> String {
     for (name, times) in counts {
         text += &format!("{:>9} {}\n", times, name);
     }
-    for number in 0..=13 {
+    for number in (0..=13).chain(Some(18)) {
         let ending = format!("reply {:>2}", number);
         let all = counts.iter().filter(|(name, _)| name.ends_with(&ending));
         let times: usize = all.map(|(_, times)| times).sum();

@@ -2,6 +2,7 @@
 
 use crate::journal::{Reader, Reading, Record};
 use crate::line::{parse, Call, Change, Command};
+use crate::mend::mend;
 use crate::rectangle::{Rectangle, Sweep};
 use crate::replay::replay;
 use crate::reply::{numbers, Reply};
@@ -14,6 +15,10 @@ pub const MOST_INPUT: usize = 1_048_576;
 
 const MOST_LENT: (u32, u32, u32) = (5000, 1200, 66_000);
 const SUM_MODULUS: u64 = 4_294_967_291;
+
+/// The most output bytes of a mend, and what they hold before.
+pub const MOST_OUTPUT: u32 = 66_000;
+const UNTOUCHED: u8 = 255;
 
 #[derive(Clone, Debug)]
 pub struct Console {
@@ -66,6 +71,7 @@ impl Console {
             Command::Address(address) => Some(address_line(address)),
             Command::Read(place) => Some(self.read(length_of(place))),
             Command::Replay(count, length) => self.replay(count, length_of(length)),
+            Command::Mend(count, length, room) => self.mend(count, length_of(length), room),
             Command::Sum => Some(format!("sum {}", self.sum())),
             Command::Change(change) => self.change(change).map(|()| "ok".to_string()),
         }
@@ -150,6 +156,30 @@ impl Console {
         ))
     }
 
+    fn mend(&mut self, count: u32, length: usize, room: u32) -> Option<String> {
+        let journal = self.tables.journal.get(..length)?;
+        let room = Some(room).filter(|room| *room <= MOST_OUTPUT)?;
+        let mut output = vec![UNTOUCHED; length_of(room)];
+        let tiles = &mut self.tables.tiles;
+        let mended = mend(
+            journal,
+            tiles,
+            count,
+            &mut self.tables.operations,
+            &mut output,
+        );
+        let bytes = output.into_iter().map(u64::from);
+        Some(format!(
+            "reply {} length {} left {} aborted {} count {} sum {}",
+            mended.reply,
+            mended.length,
+            mended.left_out,
+            mended.aborted,
+            mended.count,
+            sum_of(bytes)
+        ))
+    }
+
     fn sum(&self) -> u64 {
         let session = &self.session;
         let marks = session.open.iter().map(|mark| u64::from(*mark));
@@ -158,16 +188,17 @@ impl Console {
         let tiles = self.tables.tiles.iter().map(|key| u64::from(*key));
         let entries = self.tables.operations.iter().copied();
         let bytes = self.tables.journal.iter().map(|byte| u64::from(*byte));
-        marks
-            .chain(counts.iter().map(|count| u64::from(*count)))
-            .chain(rule)
-            .chain(tiles)
-            .chain(entries)
-            .chain(bytes)
-            .fold(0, |sum, number| {
-                (sum * 31 + number % SUM_MODULUS) % SUM_MODULUS
-            })
+        let counts = counts.iter().map(|count| u64::from(*count));
+        let session = marks.chain(counts).chain(rule);
+        sum_of(session.chain(tiles).chain(entries).chain(bytes))
     }
+}
+
+/// The sum of a list of numbers, in which their order counts.
+fn sum_of(numbers: impl Iterator<Item = u64>) -> u64 {
+    numbers.fold(0, |sum, number| {
+        (sum * 31 + number % SUM_MODULUS) % SUM_MODULUS
+    })
 }
 
 fn reply_line(reply: Reply) -> String {

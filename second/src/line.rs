@@ -13,6 +13,7 @@ pub enum Command {
     Address(Address),
     Read(u32),
     Replay(u32, u32),
+    Mend(u32, u32, u32),
     Sum,
     Change(Change),
 }
@@ -65,6 +66,9 @@ fn parse_other(word: &[u8], numbers: &[&[u8]]) -> Option<Command> {
         (b"address", place) => Command::Address(address(place)?),
         (b"read", [place]) => Command::Read(count(place)?),
         (b"replay", [tiles, length]) => Command::Replay(count(tiles)?, count(length)?),
+        (b"mend", [tiles, length, room]) => {
+            Command::Mend(count(tiles)?, count(length)?, count(room)?)
+        }
         (b"sum", []) => Command::Sum,
         _ => return None,
     })

@@ -97,9 +97,12 @@ pub fn groups(rule: Rule, steps: &[Step]) -> Vec<Group> {
 
 /// The steps that are left when these groups are dropped.
 fn without(steps: &[Step], dropped: &BTreeSet<Group>) -> Vec<Step> {
-    let is_dropped = |place: &usize| dropped.iter().any(|group| group.contains(place));
-    let kept = (0..steps.len()).filter(|place| !is_dropped(place));
-    kept.map(|place| steps[place]).collect()
+    let mut kept = vec![true; steps.len()];
+    for place in dropped.iter().flatten() {
+        kept[*place] = false;
+    }
+    let left = steps.iter().zip(kept).filter(|(_, kept)| *kept);
+    left.map(|(step, _)| *step).collect()
 }
 
 /// Whether the rest of one choice runs with its answers, and each group still in can be undone.

@@ -24,10 +24,11 @@ fn a_session_by_hand() {
 #[test]
 fn nothing_is_lent_at_the_beginning() {
     let input = "start 0 1\nstart 0 2\nopen 0\nsum\nread 0\nreplay 0 0\nreplay 7 1\n\
-                 tile 0 0\nbyte 0 0\n";
+                 tile 0 0\nbyte 0 0\nmend 5 0 0\n";
     let output = "reply 1 answer 0 holder 0\nreply 1 answer 0 holder 0\n\
                   reply 1 answer 0 holder 0\nsum 1\nend\n\
-                  reply 1 offset 0 undone 0 count 0\n?\n?\n?\n";
+                  reply 1 offset 0 undone 0 count 0\n?\n?\n?\n\
+                  reply 1 length 0 left 0 aborted 0 count 5 sum 0\n";
     assert_eq!(talk(input), output);
 }
 
@@ -85,6 +86,66 @@ fn replay_leaves_the_session_alone() {
     assert!(talk(input).ends_with("reply 1 answer 0 holder 0\n"));
 }
 
+/// The sum of a list of numbers, by the console page.
+fn sum_of(numbers: &[u128]) -> u128 {
+    let modulus = 4_294_967_291;
+    numbers
+        .iter()
+        .fold(0, |sum, number| (sum * 31 + number % modulus) % modulus)
+}
+
+/// The answer to a mend that left two bytes out, with the sum of an output of so many bytes.
+fn mended_line(room: usize) -> String {
+    let mut output = vec![
+        1u128, 0, 1, 1, 2, 0, 7, 1, 1, 1, 0x40, 3, 0xC0, 5, 4, 0, 1, 1,
+    ];
+    output.resize(room, 255);
+    let sum = sum_of(&output);
+    format!("reply 0 length 18 left 2 aborted 1 count 0 sum {}", sum)
+}
+
+/// The answer to a mend that was refused.
+fn refused_line(number: u8, count: u32, room: usize) -> String {
+    let sum = sum_of(&vec![255; room]);
+    format!(
+        "reply {} length 0 left 0 aborted 0 count {} sum {}",
+        number, count, sum
+    )
+}
+
+#[test]
+fn mends_by_hand() {
+    // The journal has an open, an insert and half of a commit.
+    let input = "lend 2 3 60\nstart 0 1\nopen 1\nins 1 4 -1 5\nbyte 14 3\nbyte 15 0\ntile 0 0\n\
+                 mend 0 16 20\nmend 0 16 18\nmend 0 16 17\nmend 1 16 20\nmend 0 61 20\n\
+                 mend 0 16 66001\nmend 0 0 0\nmend 0 16 66000\n";
+    let due = [
+        mended_line(20),
+        mended_line(18),
+        refused_line(18, 0, 17),
+        refused_line(1, 1, 20),
+        "?".to_string(),
+        "?".to_string(),
+        "reply 0 length 0 left 0 aborted 0 count 0 sum 0".to_string(),
+        mended_line(66_000),
+    ];
+    let output = talk(input);
+    let lines: Vec<&str> = output.lines().skip(7).collect();
+    assert_eq!(lines, due);
+}
+
+#[test]
+fn a_mend_leaves_the_session_alone() {
+    let input = "lend 2 3 60\nstart 0 2\nopen 1\nins 1 4 -1 5\ntile 0 0\nmend 0 18 60\ncommit 1\n\
+                 tiles 0\noperations 0\ncommit 1\nread 18\n";
+    let output = "lent 2 3 60\nreply 0 answer 0 holder 0\nreply 0 answer 0 holder 0\n\
+                  reply 0 answer 1 holder 0\nok\n\
+                  reply 0 length 22 left 0 aborted 1 count 0 sum ";
+    assert!(talk(input).starts_with(output));
+    let ending = "reply 1 answer 0 holder 0\nok\nok\nreply 0 answer 0 holder 0\ncommit 1 next 22\n";
+    assert!(talk(input).ends_with(ending));
+}
+
 #[test]
 fn the_sum_runs_over_everything() {
     let input = "lend 2 1 2\nmark 63 1\nmark 0 1\ntiles 7\noperations 8\njournal 9\nrule 2\n\
@@ -94,16 +155,13 @@ fn the_sum_runs_over_everything() {
     numbers[63] = 1;
     numbers.extend([7, 8, 9, 2]);
     numbers.extend([4_294_967_295, 3, 18_446_744_073_709_551_615, 0, 255]);
-    let modulus = 4_294_967_291;
-    let due = numbers
-        .iter()
-        .fold(0, |sum, number| (sum * 31 + number % modulus) % modulus);
+    let due = sum_of(&numbers);
     assert!(talk(input).ends_with(&format!("ok\nsum {}\n", due)));
 }
 
 /// Lines that are no command where 2 tile places, 3 operation places and 60 bytes are lent.
 #[rustfmt::skip]
-const BAD_LINES: [&[u8]; 82] = [
+const BAD_LINES: [&[u8]; 87] = [
     b"", b" ", b"sum ", b" sum", b"sum 0", b"SUM", b"sum\r", b"sum\t", b"open", b"open  1",
     b"open 1 ", b"open 01", b"open +1", b"open -1", b"open 256", b"open 1 2", b"open\t1",
     b"open 1\r", b"open \xff", b"\xffopen 1", b"open 0x1", b"start 4294967296 1", b"start -1 1",
@@ -119,6 +177,7 @@ const BAD_LINES: [&[u8]; 82] = [
     b"start", b"start 0", b"start 0 0", b"start 0 3", b"start 0 01", b"start 0 1 1", b"start 0 256",
     b"insall", b"insall 1 4 0 0 0", b"insall 1 4 0 0 0 0 0", b"insall 1 4 0 0 0 -0",
     b"delall 1 256 0 0 0 0", b"delall 1 4 0 2147483648 0 0", b"memall 1 4 0 0 0 0",
+    b"mend 0 0", b"mend 0 0 0 0", b"mend 0 61 0", b"mend 0 0 66001", b"mend 0 0 4294967296",
     b"rule", b"rule 0", b"rule 3", b"rule 1 1",
 ];
 

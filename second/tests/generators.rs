@@ -4,7 +4,7 @@ use second::census::{count_journal, count_script, table, Counts};
 use second::census::{name_of, name_of_broken, name_of_occasion};
 use second::console::answers;
 use second::journals::{journal, KINDS};
-use second::occasions::occasions;
+use second::occasions::all_names as occasion_names;
 use second::rule::RULES;
 use second::scripts::script;
 use second::soundness::requirements_of;
@@ -26,7 +26,7 @@ fn census() -> Counts {
 }
 
 /// The replies that each kind of call can give, by the rule that decides.
-const REPLIES: [(&str, &[u8]); 18] = [
+const REPLIES: [(&str, &[u8]); 20] = [
     ("start 1", &[0, 1]),
     ("start 2", &[0, 1, 9]),
     ("open 1", &[0, 1, 2, 4, 9]),
@@ -43,14 +43,17 @@ const REPLIES: [(&str, &[u8]); 18] = [
     ("read", &[10]),
     ("replay 1", &[0, 1, 10, 11, 12]),
     ("replay 2", &[0, 1, 10, 11, 12]),
+    ("mend 1", &[0, 1, 18]),
+    ("mend 2", &[0, 1, 18]),
     ("printed 1", &[0, 10, 11, 12]),
     ("printed 2", &[0, 10, 11, 12]),
 ];
 
-const OTHER_ANSWERS: [(&str, &str); 12] = [
+const OTHER_ANSWERS: [(&str, &str); 13] = [
     ("any line", "?"),
     ("lend", "?"),
     ("replay 1", "?"),
+    ("mend 1", "?"),
     ("change", "?"),
     ("read", "open"),
     ("read", "operation"),
@@ -74,7 +77,7 @@ fn all_names() -> Vec<String> {
     let others = OTHER_ANSWERS
         .iter()
         .map(|(group, sort)| name_of(group, sort));
-    let occasions = occasions().map(|(name, _)| name_of_occasion(name));
+    let occasions = occasion_names().map(name_of_occasion);
     broken
         .chain(replies)
         .chain(others)

@@ -1,5 +1,5 @@
 //! Random small histories by both rules against the report's definition, over all choices; and the
-//! journal of each history cut at every byte.
+//! journal of each history cut at every byte, replayed and mended.
 
 mod common;
 
@@ -16,6 +16,7 @@ fn many_histories(rule: Rule) -> Tally {
         let trial = Trial::run(rule, seed);
         trial.reads_back();
         trial.cut_everywhere();
+        trial.mend_everywhere();
         most_unfinished = most_unfinished.max(trial.unfinished().count());
         for (reply, times) in &trial.tally.replies {
             *sum.replies.entry(*reply).or_insert(0) += times;

@@ -2,67 +2,103 @@
 
 use crate::console::Console;
 use crate::line::{Call, Command};
-use crate::occasions::Occasion;
+use crate::occasions::named::Named;
 use crate::operation::Procedure;
 use crate::rule::Rule;
 use crate::state::State;
 use crate::tile::Tile;
 
-pub const OCCASIONS: [Occasion; 4] = [
-    ("a start by rule 2 with no byte to spare", is_bare_start),
-    (
-        "an operation on a tile that its job changed",
-        is_on_own_tile,
-    ),
-    (
-        "an insert into its job's own place, the last",
-        is_into_own_place,
-    ),
-    ("an abort of changes of one tile", is_abort_of_changes),
+pub const NAMED: [Named<Known>; 4] = [
+    ("a start by rule 2 with no byte to spare", |known| {
+        matches!(known, Known::Start { journal: 4 })
+    }),
+    ("an operation on a tile that its job changed", |known| {
+        matches!(known, Known::Operation { own: true, .. })
+    }),
+    ("an insert into its job's own place, the last", |known| {
+        matches!(
+            known,
+            Known::Operation {
+                own: true,
+                inserts: true,
+                full: true
+            }
+        )
+    }),
+    ("an abort of changes of one tile", |known| {
+        matches!(
+            known,
+            Known::Abort {
+                changed_again: true
+            }
+        )
+    }),
 ];
 
-fn is_bare_start(console: &Console, command: Command) -> bool {
-    let by_rule_2 = matches!(command, Command::Call(Call::Start(_, Rule::JobAsOne)));
-    by_rule_2 && console.tables.journal.len() == 4
+/// What there is to know about a start by rule 2, or a call on a sound session by it.
+pub enum Known {
+    Start {
+        journal: usize,
+    },
+    /// Whether the job changed the tile before, whether this inserts it where it is absent, and
+    /// whether every place is spoken for.
+    Operation {
+        own: bool,
+        inserts: bool,
+        full: bool,
+    },
+    /// Whether the job changed some tile more than once.
+    Abort {
+        changed_again: bool,
+    },
 }
 
-fn is_on_own_tile(console: &Console, command: Command) -> bool {
-    operation(console, command).map_or(false, |(state, job, _, tile)| {
-        changes_of(&state, job).contains(&tile)
-    })
-}
-
-fn is_into_own_place(console: &Console, command: Command) -> bool {
-    operation(console, command).map_or(false, |(state, job, procedure, tile)| {
-        let is_back = procedure == Procedure::Insert && !state.tiles.contains(&tile);
-        let is_own = changes_of(&state, job).contains(&tile);
-        is_back && is_own && state.places_spoken_for() == state.tile_places
-    })
-}
-
-fn is_abort_of_changes(console: &Console, command: Command) -> bool {
-    if let Command::Call(Call::Abort(job)) = command {
-        return state_by_rule_2(console).map_or(false, |state| {
-            let changed = changes_of(&state, job);
-            (1..changed.len()).any(|place| changed[..place].contains(&changed[place]))
-        });
+pub fn known(console: &Console, command: Command) -> Option<Known> {
+    let call = match command {
+        Command::Call(call) => call,
+        Command::Lend(..)
+        | Command::Sweep(..)
+        | Command::Address(_)
+        | Command::Read(_)
+        | Command::Replay(..)
+        | Command::Mend(..)
+        | Command::Sum
+        | Command::Change(_) => return None,
+    };
+    match call {
+        Call::Start(_, Rule::JobAsOne) => Some(Known::Start {
+            journal: console.tables.journal.len(),
+        }),
+        Call::Operate(job, procedure, address) => {
+            let state = state_by_rule_2(console)?;
+            Some(operation(&state, job, procedure, address.tile()?))
+        }
+        Call::Abort(job) => Some(abort(&state_by_rule_2(console)?, job)),
+        Call::Start(_, Rule::EachAlone) | Call::Open(_) | Call::Commit(_) => None,
     }
-    false
 }
 
-/// The sound state of a session by rule 2.
 fn state_by_rule_2(console: &Console) -> Option<State> {
-    let by_rule_2 = console.session.rule == Rule::JobAsOne;
-    Some(console)
-        .filter(|_| by_rule_2)
-        .and_then(|console| State::decode(&console.session, &console.tables))
+    match console.session.rule {
+        Rule::EachAlone => None,
+        Rule::JobAsOne => State::decode(&console.session, &console.tables),
+    }
 }
 
-fn operation(console: &Console, command: Command) -> Option<(State, u8, Procedure, Tile)> {
-    if let Command::Call(Call::Operate(job, procedure, address)) = command {
-        return Some((state_by_rule_2(console)?, job, procedure, address.tile()?));
+fn operation(state: &State, job: u8, procedure: Procedure, tile: Tile) -> Known {
+    Known::Operation {
+        own: changes_of(state, job).contains(&tile),
+        inserts: procedure == Procedure::Insert && !state.tiles.contains(&tile),
+        full: state.places_spoken_for() == state.tile_places,
     }
-    None
+}
+
+fn abort(state: &State, job: u8) -> Known {
+    let changed = changes_of(state, job);
+    let is_again = |place: usize| changed[..place].contains(&changed[place]);
+    Known::Abort {
+        changed_again: (0..changed.len()).any(is_again),
+    }
 }
 
 /// The tiles that an open job changed, in order, each as often as it did.

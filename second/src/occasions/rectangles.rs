@@ -1,76 +1,66 @@
 //! Rectangles at the edges of what is taken, and at the last free place of each table.
 
 use crate::console::Console;
+use crate::encoding::free_bytes;
 use crate::line::Command;
-use crate::occasions::Occasion;
+use crate::occasions::named::Named;
 use crate::rectangle::{Rectangle, Sweep};
 use crate::reply::Refusal;
 use crate::service::bytes_needed;
-use crate::state::{free_bytes, State};
+use crate::state::State;
 use crate::tile::side_of;
 
-pub const OCCASIONS: [Occasion; 14] = [
-    ("a rectangle across the seam", |_, command| {
-        has_shape(command, |shape| shape.is_taken() && shape.crosses_seam())
+pub const SHAPES: [Named<Shape>; 8] = [
+    ("a rectangle across the seam", |shape| {
+        shape.is_taken() && shape.crosses_seam()
     }),
-    ("a rectangle as wide as the level", |_, command| {
-        has_shape(command, |shape| {
-            shape.is_taken() && shape.width == shape.side
-        })
+    ("a rectangle as wide as the level", |shape| {
+        shape.is_taken() && shape.width == shape.side
     }),
-    ("a rectangle one wider than the level", |_, command| {
-        has_shape(command, |shape| shape.width == shape.side + 1)
+    ("a rectangle one wider than the level", |shape| {
+        shape.width == shape.side + 1
     }),
-    ("a rectangle of 256 tiles", |_, command| {
-        has_shape(command, |shape| shape.is_taken() && shape.tiles() == 256)
+    ("a rectangle of 256 tiles", |shape| {
+        shape.is_taken() && shape.tiles() == 256
     }),
-    ("a rectangle of 257 tiles", |_, command| {
-        has_shape(command, |shape| shape.fits_level() && shape.tiles() == 257)
+    ("a rectangle of 257 tiles", |shape| {
+        shape.fits_level() && shape.tiles() == 257
     }),
-    ("a rectangle wider than 32 bits say", |_, command| {
-        has_shape(command, |shape| shape.width > i64::from(i32::MAX))
+    ("a rectangle wider than 32 bits say", |shape| {
+        shape.width > i64::from(i32::MAX)
     }),
-    ("a rectangle at the first column", |_, command| {
-        has_shape(command, |shape| shape.is_taken() && shape.west == i32::MIN)
+    ("a rectangle at the first column", |shape| {
+        shape.is_taken() && shape.west == i32::MIN
     }),
-    ("a rectangle to the last column", |_, command| {
-        has_shape(command, |shape| shape.is_taken() && shape.east == i32::MAX)
+    ("a rectangle to the last column", |shape| {
+        shape.is_taken() && shape.east == i32::MAX
     }),
-    (
-        "a rectangle into the last tile places",
-        |console, command| {
-            has_rooms(console, command, |tiles, entries, bytes| {
-                tiles.needed > 1 && tiles.is_last() && entries.fits() && bytes.fits()
-            })
-        },
-    ),
-    ("a rectangle one tile place short", |console, command| {
-        has_rooms(console, command, |tiles, _, _| tiles.is_one_short())
+];
+
+/// Of rectangles that nothing but room can refuse.
+pub const ROOMS: [Named<Rooms>; 6] = [
+    ("a rectangle into the last tile places", |rooms| {
+        rooms.tiles.needed > 1 && rooms.tiles.is_last() && rooms.all_fit()
     }),
-    ("a rectangle into the last entries", |console, command| {
-        has_rooms(console, command, |tiles, entries, bytes| {
-            tiles.fits() && entries.needed > 1 && entries.is_last() && bytes.fits()
-        })
+    ("a rectangle one tile place short", |rooms| {
+        rooms.tiles.is_one_short()
     }),
-    ("a rectangle one entry short", |console, command| {
-        has_rooms(console, command, |tiles, entries, _| {
-            tiles.fits() && entries.is_one_short()
-        })
+    ("a rectangle into the last entries", |rooms| {
+        rooms.entries.needed > 1 && rooms.entries.is_last() && rooms.all_fit()
     }),
-    ("a rectangle into the last bytes", |console, command| {
-        has_rooms(console, command, |tiles, entries, bytes| {
-            tiles.fits() && entries.fits() && bytes.is_last()
-        })
+    ("a rectangle one entry short", |rooms| {
+        rooms.tiles.fits() && rooms.entries.is_one_short()
     }),
-    ("a rectangle one byte short", |console, command| {
-        has_rooms(console, command, |tiles, entries, bytes| {
-            tiles.fits() && entries.fits() && bytes.is_one_short()
-        })
+    ("a rectangle into the last bytes", |rooms| {
+        rooms.bytes.is_last() && rooms.all_fit()
+    }),
+    ("a rectangle one byte short", |rooms| {
+        rooms.tiles.fits() && rooms.entries.fits() && rooms.bytes.is_one_short()
     }),
 ];
 
 /// A rectangle of a served level, with rows that are there.
-struct Shape {
+pub struct Shape {
     side: i64,
     west: i32,
     east: i32,
@@ -111,11 +101,11 @@ impl Shape {
     }
 }
 
-fn has_shape(command: Command, wanted: fn(&Shape) -> bool) -> bool {
+pub fn shape(command: Command) -> Option<Shape> {
     if let Command::Sweep(_, _, rectangle) = command {
-        return Shape::of(rectangle).map_or(false, |shape| wanted(&shape));
+        return Shape::of(rectangle);
     }
-    false
+    None
 }
 
 /// What a rectangle needs of a table, and what is free there.
@@ -138,22 +128,27 @@ impl Room {
     }
 }
 
-/// Whether the rooms of a rectangle that nothing but room can refuse are as wanted: of the tile
-/// places, of the entries and of the journal bytes.
-fn has_rooms(console: &Console, command: Command, wanted: fn(&Room, &Room, &Room) -> bool) -> bool {
-    rooms(console, command).map_or(false, |[tiles, entries, bytes]| {
-        wanted(&tiles, &entries, &bytes)
-    })
+/// The rooms in the tile table, the operations table and the journal.
+pub struct Rooms {
+    tiles: Room,
+    entries: Room,
+    bytes: Room,
 }
 
-fn rooms(console: &Console, command: Command) -> Option<[Room; 3]> {
+impl Rooms {
+    fn all_fit(&self) -> bool {
+        self.tiles.fits() && self.entries.fits() && self.bytes.fits()
+    }
+}
+
+pub fn rooms(console: &Console, command: Command) -> Option<Rooms> {
     if let Command::Sweep(job, sweep, rectangle) = command {
         return rooms_of(console, job, sweep, rectangle);
     }
     None
 }
 
-fn rooms_of(console: &Console, job: u8, sweep: Sweep, rectangle: Rectangle) -> Option<[Room; 3]> {
+fn rooms_of(console: &Console, job: u8, sweep: Sweep, rectangle: Rectangle) -> Option<Rooms> {
     let state = State::decode(&console.session, &console.tables)?;
     state.require_open(job).ok()?;
     let tiles = rectangle.tiles().ok()?;
@@ -161,18 +156,18 @@ fn rooms_of(console: &Console, job: u8, sweep: Sweep, rectangle: Rectangle) -> O
     if let Err(Refusal::Held(_)) = state.examine(job, sweep.procedure(), &tiles) {
         return None;
     }
-    Some([
-        Room {
+    Some(Rooms {
+        tiles: Room {
             needed: state.places_needed(&wanted),
             free: state.tile_places - state.places_spoken_for(),
         },
-        Room {
+        entries: Room {
             needed: wanted.len(),
             free: state.operation_places - state.admitted.len(),
         },
-        Room {
+        bytes: Room {
             needed: bytes_needed(&state, wanted.len()),
             free: free_bytes(&console.session, &console.tables)?,
         },
-    ])
+    })
 }

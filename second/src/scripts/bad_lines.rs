@@ -15,7 +15,7 @@ use Type::{Count, Entry, Signed, Small};
 
 type Form = (&'static str, &'static [Type]);
 
-const FORMS: [Form; 22] = [
+const FORMS: [Form; 23] = [
     ("lend", &[Count, Count, Count]),
     ("start", &[Count, Small]),
     ("open", &[Small]),
@@ -29,6 +29,7 @@ const FORMS: [Form; 22] = [
     ("address", &[Small, Signed, Signed]),
     ("read", &[Count]),
     ("replay", &[Count, Count]),
+    ("mend", &[Count, Count, Count]),
     ("sum", &[]),
     ("tile", &[Count, Count]),
     ("entry", &[Count, Entry]),
@@ -196,7 +197,7 @@ fn place_not_lent(writer: &mut Writer) -> String {
         tables.operations.len(),
         tables.journal.len(),
     );
-    match writer.random.below(14) {
+    match writer.random.below(16) {
         0 => format!("tile {} 0", tiles),
         1 => format!("entry {} 0", operations),
         2 => format!("byte {} 0", journal),
@@ -206,6 +207,8 @@ fn place_not_lent(writer: &mut Writer) -> String {
         6 => "mark 64 0".to_string(),
         7 => "mark 0 2".to_string(),
         8 => format!("replay 0 {}", journal + 1),
+        13 => format!("mend 0 {} 10", journal + 1),
+        14 => "mend 0 0 66001".to_string(),
         9 => "lend 5001 1 1".to_string(),
         10 => "lend 1 1201 1".to_string(),
         11 => format!("start 0 {}", writer.random.pick(&NO_RULES)),

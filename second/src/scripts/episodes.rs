@@ -6,6 +6,7 @@ use crate::scripts::bad_lines;
 use crate::scripts::calls;
 use crate::scripts::damage;
 use crate::scripts::filling;
+use crate::scripts::mending;
 use crate::scripts::nowhere;
 use crate::scripts::replacing;
 use crate::scripts::replays;
@@ -15,7 +16,7 @@ use crate::scripts::writer::Writer;
 use crate::session::length_of;
 
 pub fn episode(writer: &mut Writer) {
-    match writer.random.below(856) {
+    match writer.random.below(860) {
         0..=129 => side_by_side(writer),
         130..=194 => small_journal(writer),
         195..=289 => from_nowhere(writer),
@@ -35,7 +36,8 @@ pub fn episode(writer: &mut Writer) {
         643..=762 => sweeping::at_the_last_place(writer),
         763..=822 => sweeping::held(writer),
         823..=830 => sweeping::on_many_tiles(writer),
-        _ => sweeping::edges(writer),
+        831..=855 => sweeping::edges(writer),
+        _ => mending::at_the_most_bytes(writer),
     }
 }
 
@@ -64,7 +66,10 @@ fn side_by_side(writer: &mut Writer) {
 /// A journal that is full before anything else is.
 fn small_journal(writer: &mut Writer) {
     let pool = Pool::few(&mut writer.random);
-    let journal = writer.random.below(70);
+    let journal = match writer.random.below(5) {
+        0 => writer.random.below(9),
+        _ => writer.random.below(70),
+    };
     start_small(writer, &pool, journal);
     calls::run(writer, &pool, 20);
     // A new start leaves the older bytes behind the used ones.
@@ -161,7 +166,7 @@ fn limits(writer: &mut Writer) {
         0 => tiles = random.pick(&[0, 1, 4095, 4096, 4097, 4999, 5000, 5001]),
         1 => operations = random.pick(&[0, 1, 1023, 1024, 1025, 1199, 1200, 1201]),
         2 => journal = random.pick(&[65_535, 65_536, 65_537, 65_999, 66_000, 66_001]),
-        _ => journal = random.pick(&[0, 1, 3, 4, 7, 8, 9, 11, 12]),
+        _ => journal = random.pick(&[0, 1, 3, 3, 4, 4, 7, 8, 9, 11, 12]),
     }
     writer.lend(tiles, operations, journal);
     let rule = writer.random.pick(&RULES).number();

@@ -6,6 +6,7 @@ mod calls;
 mod damage;
 mod episodes;
 mod filling;
+mod mending;
 mod nowhere;
 mod rectangles;
 mod replacing;

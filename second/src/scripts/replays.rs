@@ -1,32 +1,42 @@
-//! Replays of the lent journal onto tables in all states.
+//! Replays and mends of the lent journal onto tables in all states.
 
 use crate::journal::{Reader, Reading};
 use crate::journals::short_journal;
 use crate::random::Random;
 use crate::scripts::addresses::Pool;
 use crate::scripts::calls;
+use crate::scripts::mending;
 use crate::scripts::writer::Writer;
 
-/// Replays at several lengths, each onto a table that was set anew.
+/// Replays or mends so many bytes onto the tile table with this count.
+fn replay_or_mend(writer: &mut Writer, count: usize, length: usize) {
+    if writer.random.one_in(2) {
+        writer.tell(format!("replay {} {}", count, length));
+    } else {
+        mending::mend(writer, count, length);
+    }
+}
+
+/// Replays and mends at several lengths, each onto a table that was set anew.
 pub fn replay_often(writer: &mut Writer, pool: &Pool) {
-    for _ in 0..writer.random.between(2, 6) {
+    for _ in 0..writer.random.between(3, 8) {
         let count = if writer.random.one_in(5) {
             wild_count(writer)
         } else {
             set_tiles(writer, pool)
         };
         let length = some_length(writer);
-        writer.tell(format!("replay {} {}", count, length));
+        replay_or_mend(writer, count, length);
         writer.look();
     }
 }
 
-/// Replays of the used journal and of every shorter one, onto no tiles.
+/// Replays and mends of the used journal and of every shorter one, onto no tiles.
 pub fn replay_every_length(writer: &mut Writer) {
     let used = writer.console.used_journal().len().min(150);
     for length in 0..used + 1 {
         clear_tiles(writer);
-        writer.tell(format!("replay 0 {}", length));
+        replay_or_mend(writer, 0, length);
         if length % 8 == 0 {
             writer.tell("sum");
         }
@@ -116,6 +126,22 @@ fn damage_journal(writer: &mut Writer) {
     }
 }
 
+/// Makes a rule record of a record that is as long, wherever it stands.
+fn put_rule_record(writer: &mut Writer) {
+    let journal = writer.console.used_journal();
+    let (mut places, _) = record_places(writer);
+    places.retain(|place| journal[*place] != 2);
+    let record = match places.get(writer.random.below(places.len().min(3))) {
+        None => return,
+        Some(place) => *place,
+    };
+    let rule = writer.random.pick(&[2, 2, 2, 1, 0]);
+    writer.tell(format!("byte {} 5", record));
+    writer.tell(format!("byte {} {}", record + 3, rule));
+    writer.tell(format!("read {}", record));
+    read_cut(writer, record);
+}
+
 /// Takes the used bytes to end inside the record, reads it, and gives them back.
 fn read_cut(writer: &mut Writer, record: usize) {
     let used = writer.console.session.journal;
@@ -157,7 +183,7 @@ pub fn foreign_journal(writer: &mut Writer) {
         writer.tell(format!("read {}", place));
     }
     let pool = Pool::few(&mut writer.random);
-    writer.tell(format!("replay 0 {}", bytes.len()));
+    replay_or_mend(writer, 0, bytes.len());
     replay_often(writer, &pool);
     calls::read_here_and_there(writer, 5);
 }
@@ -180,6 +206,7 @@ pub fn episode(writer: &mut Writer) {
         replay_often(writer, &pool);
     }
     damage_journal(writer);
+    put_rule_record(writer);
     if writer.random.one_in(2) {
         calls::read_everywhere(writer);
     }

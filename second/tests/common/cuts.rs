@@ -1,8 +1,9 @@
-//! The journal of a history: it reads back as the calls, and cut at any byte it replays to what
-//! the committed jobs did.
+//! The journal of a history: it reads back as the calls, and cut at any byte it replays, and is
+//! mended, to what the committed jobs did.
 
 use super::history::{Logged, Trial};
 use second::journal::{Reader, Reading, Record};
+use second::mend::mend;
 use second::replay::replay;
 use second::rule::Rule;
 use second::strictness::{run, Step, Tiles};
@@ -83,13 +84,17 @@ impl Trial {
         padded.take(self.bench.tables.tiles.len()).collect()
     }
 
+    /// What stands in the tables before a replay or a mend; the operations table may hold anything.
+    fn tables_before(&self) -> (Vec<u32>, u32, Vec<u64>) {
+        let operations = vec![u64::MAX; self.bench.tables.operations.len()];
+        (self.table(&self.start), self.start.len() as u32, operations)
+    }
+
     pub fn cut_everywhere(&self) {
         for length in 0..=self.bench.journal().len() {
             let left = self.committed_at(length);
-            let mut tiles = self.table(&self.start);
-            let mut operations = vec![u64::MAX; self.bench.tables.operations.len()];
+            let (mut tiles, count, mut operations) = self.tables_before();
             let journal = &self.bench.journal()[..length];
-            let count = self.start.len() as u32;
             let outcome = replay(journal, &mut tiles, count, &mut operations);
             assert_eq!(outcome.reply, 0);
             assert_eq!(outcome.offset as usize, self.offset(length));
@@ -98,5 +103,50 @@ impl Trial {
             assert_eq!(tiles, self.table(&left));
             assert!(operations.iter().all(|entry| *entry == 0));
         }
+    }
+
+    /// Mends the journal cut at every byte into just enough room and into one byte less, and
+    /// replays what comes out.
+    pub fn mend_everywhere(&self) {
+        for length in 0..=self.bench.journal().len() {
+            let journal = &self.bench.journal()[..length];
+            let mut due = journal[..self.offset(length)].to_vec();
+            let open = self.open_at(length);
+            due.extend(open.iter().flat_map(|job| [4, 0, 1, *job]));
+            let (mut tiles, count, mut operations) = self.tables_before();
+            let mut output = vec![7; due.len()];
+            let mended = mend(journal, &mut tiles, count, &mut operations, &mut output);
+            assert_eq!((mended.reply, mended.length as usize), (0, due.len()));
+            assert_eq!(mended.left_out as usize, length - self.offset(length));
+            assert_eq!(mended.aborted as usize, open.len());
+            assert_eq!(output, due);
+            assert_eq!(tiles, self.table(&self.committed_at(length)));
+            assert!(operations.iter().all(|entry| *entry == 0));
+            self.check_mended(&due, &tiles, mended.count);
+            self.check_short(journal, due.len());
+        }
+    }
+
+    /// The mended journal replays to the same tiles, to its end and with nothing left to undo.
+    fn check_mended(&self, mended: &[u8], due: &[u32], left: u32) {
+        let (mut tiles, count, mut operations) = self.tables_before();
+        let outcome = replay(mended, &mut tiles, count, &mut operations);
+        assert_eq!((outcome.reply, outcome.undone, outcome.count), (0, 0, left));
+        assert_eq!(outcome.offset as usize, mended.len());
+        assert_eq!(tiles, due);
+    }
+
+    fn check_short(&self, journal: &[u8], needed: usize) {
+        if needed == 0 {
+            return;
+        }
+        let before = self.tables_before();
+        let (mut tiles, count, mut operations) = before.clone();
+        let mut output = vec![7; needed - 1];
+        let mended = mend(journal, &mut tiles, count, &mut operations, &mut output);
+        assert_eq!((mended.reply, mended.count), (18, count));
+        assert_eq!((mended.length, mended.left_out, mended.aborted), (0, 0, 0));
+        assert_eq!((tiles, count, operations), before);
+        assert_eq!(output, vec![7; needed - 1]);
     }
 }
