@@ -10,7 +10,7 @@ use lib.ListN.{length, length-map}
 use lib.Seq.{length-take-le}
 use Rattle.entries.specs.Laws.{reserved-three}
 use Rattle.entries.specs.Table.{EntryTable, countThree}
-use Rattle.service.specs.Admission.{State, ruleOf}
+use Rattle.service.specs.Admission.{State}
 use Rattle.service.specs.Entry.{opIn}
 use Rattle.service.specs.Laws.Storing.{padded-zeros}
 use Rattle.service.specs.Sound.{Tabled}
@@ -19,8 +19,9 @@ use Rattle.strict.specs.Book.{besides, counted, heldBy, needsPlace, reserved, s
 use Rattle.strict.specs.Laws.Counted.{counted-few}
 use Rattle.strict.specs.Laws.Room.{room-either}
 use Rattle.strict.specs.Operations.{Op, begun}
-use Rattle.strict.specs.Strict.{Rule, alone, together}
 use Rattle.strict.specs.declared.Procedure.{Procedure}
+use Rattle.strict.specs.declared.Rule.{Rule}
+use Rattle.strict.specs.declared.Rule.the-variants.{Alone, Together}
 use Rattle.tiles.specs.Laws.{zeros-table}
 use Rattle.tiles.specs.Table.{TileTable}
 use Rattle.admission.specs.Verdicts.{byHolder, verdictOf}
@@ -28,8 +29,8 @@ use Rattle.admission.specs.declared.Verdict.the-variants.{Admitted, Held
 use Rattle.admission.specs.declared.Verdict.{Verdict}
 
 besides-few : (r : Rule) (t : List ℕ) (us : List Op) → besides r t us ≤ reserved us
-besides-few alone t us = omega arith
-besides-few together t us = counted-few t us
+besides-few Alone t us = omega arith
+besides-few Together t us = counted-few t us
 
 module _ (w : World) (o : Tabled w) where
   pub tile-table : TileTable (w .tiles) (w .session .tiles)
@@ -45,34 +46,34 @@ module _ (w : World) (o : Tabled w) where
   operations-count = length-map (usedOperations w) opIn ∙ length-take-le (w .session .operations) (w .operations) (o .operations-fit)
 
   -- the places that are spoken for, as the code counts them
-  pub spoken-for : spokenFor (ruleOf (w .session .rule)) (state w .book)
-      ≡ w .session .tiles + besides (ruleOf (w .session .rule)) (usedTiles w) (map opIn (usedOperations w))
-  spoken-for = ap (λ n. n + besides (ruleOf (w .session .rule)) (usedTiles w) (map opIn (usedOperations w))) tiles-count
+  pub spoken-for : spokenFor (w .session .rule) (state w .book)
+      ≡ w .session .tiles + besides (w .session .rule) (usedTiles w) (map opIn (usedOperations w))
+  spoken-for = ap (λ n. n + besides (w .session .rule) (usedTiles w) (map opIn (usedOperations w))) tiles-count
 
   -- by either rule no more than the tiles and the entries of kind 3
-  pub few-spoken : spokenFor (ruleOf (w .session .rule)) (state w .book) ≤ w .session .tiles + countThree (usedOperations w)
-  few-spoken = omega (arith, spoken-for, besides-few (ruleOf (w .session .rule)) (usedTiles w) (map opIn (usedOperations w)), reserved-three (usedOperations w))
+  pub few-spoken : spokenFor (w .session .rule) (state w .book) ≤ w .session .tiles + countThree (usedOperations w)
+  few-spoken = omega (arith, spoken-for, besides-few (w .session .rule) (usedTiles w) (map opIn (usedOperations w)), reserved-three (usedOperations w))
 
   -- there is room for the tiles with those that are counted, whichever the rule
   pub room-there : length (usedTiles w) + counted (usedTiles w) (map opIn (usedOperations w)) ≤ length (w .tiles)
-  room-there = omega (arith, room-either (ruleOf (w .session .rule)) (state w .book), o .room)
+  room-there = omega (arith, room-either (w .session .rule) (state w .book), o .room)
 
 -- each verdict
 module _ (places slots : ℕ) (s : State) (job : ℕ) (p : Procedure) (k : ℕ) where
-  abbrev pub holding : Option ℕ
-  holding = heldBy (ruleOf (s .rule)) (s .book) job p k
+  abbrev pub theHolder : Option ℕ
+  theHolder = heldBy (s .rule) (s .book) job p k
 
   abbrev pub lacksPlace : Bool
-  lacksPlace = needsPlace (ruleOf (s .rule)) (s .book .table) (begun job p k (s .book .tiles)) && eqb (spokenFor (ruleOf (s .rule)) (s .book)) places
+  lacksPlace = needsPlace (s .rule) (s .book .table) (begun job p k (s .book .tiles)) && eqb (spokenFor (s .rule) (s .book)) places
 
   abbrev pub lacksSlot : Bool
   lacksSlot = eqb (length (s .book .table)) slots
 
-  pub held : (by : ℕ) → holding ≡ some by → Held by ≡ verdictOf places slots s job p k
+  pub held : (by : ℕ) → theHolder ≡ some by → Held by ≡ verdictOf places slots s job p k
   unfolding verdictOf
   held by h = rw h
 
-  module _ (free : holding ≡ none) where
+  module _ (free : theHolder ≡ none) where
     pub no-place : lacksPlace ≡ true → NoTileRoom ≡ verdictOf places slots s job p k
     unfolding verdictOf
     no-place h = rw (free, h)
@@ -88,16 +89,16 @@ module _ (places slots : ℕ) (s : State) (job : ℕ) (p : Procedure) (k : ℕ) 
 
   -- what a verdict means
   abbrev pub Means : Verdict → Type 0
-  Means (Held by) = holding ≡ some by
-  Means NoTileRoom = (holding ≡ none) × (lacksPlace ≡ true)
-  Means NoOperationRoom = (holding ≡ none) × (lacksPlace ≡ false) × (lacksSlot ≡ true)
-  Means Admitted = (holding ≡ none) × (lacksPlace ≡ false) × (lacksSlot ≡ false)
+  Means (Held by) = theHolder ≡ some by
+  Means NoTileRoom = (theHolder ≡ none) × (lacksPlace ≡ true)
+  Means NoOperationRoom = (theHolder ≡ none) × (lacksPlace ≡ false) × (lacksSlot ≡ true)
+  Means Admitted = (theHolder ≡ none) × (lacksPlace ≡ false) × (lacksSlot ≡ false)
 
   verdict-means : Means (verdictOf places slots s job p k)
   unfolding verdictOf
-  verdict-means = go holding refl lacksPlace refl lacksSlot refl
+  verdict-means = go theHolder refl lacksPlace refl lacksSlot refl
     where
-      go : (o : Option ℕ) → holding ≡ o → (a : Bool) → lacksPlace ≡ a → (b : Bool) → lacksSlot ≡ b
+      go : (o : Option ℕ) → theHolder ≡ o → (a : Bool) → lacksPlace ≡ a → (b : Bool) → lacksSlot ≡ b
           → Means (byHolder o (cond a NoTileRoom (cond b NoOperationRoom Admitted)))
       go (some by) x a y b z = x
       go none x true y b z = (x, y)

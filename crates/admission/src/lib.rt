@@ -6,7 +6,6 @@ ghost use lib.Dec.{eqb};
 ghost use lib.ListN.{length};
 ghost use Rattle.strict.specs.Book.{spokenFor};
 ghost use Rattle.strict.specs.Operations as report;
-ghost use Rattle.service.specs.Admission.{ruleOf};
 ghost use Rattle.service.specs.Sound.{Tabled};
 ghost use Rattle.service.specs.World.{state, world};
 ghost use Rattle.rules.specs.Rules.{wantsPlace};
@@ -64,8 +63,8 @@ pub fn answer(procedure: Procedure, found: bool) -> bool
 // which are soon counted: only where these take all places the rule is asked.
 fn lacks_place(session: Session, tiles: &[u32], operations: &[u64], kind: usize, key: u32) -> bool
     requires { ⌜ Tabled (world session (now tiles) (now operations) []) ⌝ }
-    ensures { λ r. ⌜ r ≡ (wantsPlace (ruleOf (session .rule)) (state (world session (now (tiles .entry)) (now (operations .entry)) []) .book .table) kind key
-        && eqb (spokenFor (ruleOf (session .rule)) (state (world session (now (tiles .entry)) (now (operations .entry)) []) .book)) (length (now (tiles .entry)))) ⌝ }
+    ensures { λ r. ⌜ r ≡ (wantsPlace (session .rule) (state (world session (now (tiles .entry)) (now (operations .entry)) []) .book .table) kind key
+        && eqb (spokenFor (session .rule) (state (world session (now (tiles .entry)) (now (operations .entry)) []) .book)) (length (now (tiles .entry)))) ⌝ }
 {
     let rule = session.rule;
     let count = session.tiles;

@@ -3,9 +3,9 @@ use rectangles::Change;
 use rectangles::Rectangle;
 use service::Address;
 use service::Outcome;
-use service::Rule;
 use service::Session;
 use strict::Procedure;
+use strict::Rule;
 
 // The rule of a number: 2 for the second, and the first for all others.
 fn rule_of(number: usize) -> Rule {

@@ -8,7 +8,7 @@ use lib.Dec.{eqb}
 use lib.ListN.{getD, getD-replicate, length, replicate, set}
 use lib.Seq.{getD-set-other, getD-set-same, slice}
 use borrow.Author.Tests.{ne-eqb}
-use Rattle.lists.specs.Lists.{all, slice-end, slice-next}
+use Rattle.lists.specs.Lists.{allTrue, slice-end, slice-next}
 use Rattle.lists.specs.Truth.{Same, and-both, both, other, same, same?}
 use Rattle.service.specs.Entry.{keyIn}
 use Rattle.chains.specs.Chains.{nearSlot, startOf}
@@ -21,7 +21,7 @@ passedBy recorded key f = not (recorded f && eqb key (keyIn f))
 pub record Reaches (recorded : ℕ → Bool) (key : ℕ) (l : List ℕ) (count i from : ℕ) : Type 0 where
   pub low : i ≤ from
   pub high : from ≤ count
-  pub free : all (passedBy recorded key) (slice i from l) ≡ true
+  pub free : allTrue (passedBy recorded key) (slice i from l) ≡ true
 
 abbrev pub Nearest : (ℕ → Bool) → List ℕ → ℕ → List ℕ → ℕ → Type 0
 Nearest recorded l count near i = (key : ℕ) → Reaches recorded key l count i (startOf (getD near (nearSlot key) 0) count)
@@ -29,13 +29,13 @@ Nearest recorded l count near i = (key : ℕ) → Reaches recorded key l count i
 -- what passes such entries by says the same from both places
 module _ {A : Type 0} (F : List ℕ → A) (test : ℕ → Bool) (passes : (f : ℕ) (fs : List ℕ) → test f ≡ true → F (f ∷ fs) ≡ F fs)
     (l : List ℕ) (count from : ℕ) (fits : count ≤ length l) (inside : from ≤ count) where
-  same-by : (d i : ℕ) → i + d ≡ from → all test (slice i from l) ≡ true → F (slice i count l) ≡ F (slice from count l)
+  same-by : (d i : ℕ) → i + d ≡ from → allTrue test (slice i from l) ≡ true → F (slice i count l) ≡ F (slice from count l)
   same-by zero i e free = let here : i ≡ from = omega arith in ap (λ x. F (slice x count l)) here
   same-by (suc d) i e free =
-      let p = both (test (getD l i 0)) (all test (slice (i + 1) from l)) (sym (ap (all test) (slice-next l from i (omega arith) (omega arith))) ∙ free) in
+      let p = both (test (getD l i 0)) (allTrue test (slice (i + 1) from l)) (sym (ap (allTrue test) (slice-next l from i (omega arith) (omega arith))) ∙ free) in
       ap F (slice-next l count i fits (omega arith)) ∙ passes (getD l i 0) (slice (i + 1) count l) (p .0) ∙ same-by d (i + 1) (omega arith) (p .1)
 
-  pub same-from : (i : ℕ) → i ≤ from → all test (slice i from l) ≡ true → F (slice i count l) ≡ F (slice from count l)
+  pub same-from : (i : ℕ) → i ≤ from → allTrue test (slice i from l) ≡ true → F (slice i count l) ≡ F (slice from count l)
   same-from i low free = same-by (from - i) i (omega arith) free
 
 module _ (recorded : ℕ → Bool) (l : List ℕ) (count : ℕ) where

@@ -8,13 +8,13 @@ use lib.Dec.{eqb}
 use lib.ListN.{getD, length}
 use lib.Seq.{slice}
 use borrow.Author.Tests.{eqb-true, not-true}
-use Rattle.lists.specs.Lists.{all, slice-next}
+use Rattle.lists.specs.Lists.{allTrue, slice-next}
 use Rattle.lists.specs.Truth.{both, oneIf}
 use Rattle.strict.specs.Book.{counted, deleted}
 use Rattle.strict.specs.Tiles.{member}
+use Rattle.strict.specs.declared.Rule.the-variants.{Together}
 use Rattle.service.specs.Entry.{jobIn, keyIn, kindIn, opIn}
 use Rattle.service.specs.Sound.{asLeft, changing, mayStand, seenIn, settledB}
-use Rattle.service.specs.declared.Rule.the-variants.{Together}
 use Rattle.entries.specs.Laws.{decoded}
 use Rattle.scans.specs.Tests.{settledAt}
 use Rattle.chains.specs.Chains.{followed, linked, passed}
@@ -61,13 +61,13 @@ followed-passes t e f fs h = rw (not-true (eqb (keyIn e) (keyIn f)) h)
 -- where the later entries are settled, what follows e says all that is asked of e
 module _ (t : List ℕ) (e : ℕ) (changes : changing (kindIn e) ≡ true) where
   abbrev asked : List ℕ → Bool
-  asked later = asLeft (kindIn e) (seenIn (keyIn e) later t) && all (mayStand Together e) later
+  asked later = asLeft (kindIn e) (seenIn (keyIn e) later t) && allTrue (mayStand Together e) later
 
   module _ (f : ℕ) (fs : List ℕ) (settled : settledAt Together t fs f ≡ true) (rest : followed t e fs ≡ asked fs) where
     on-from : eqb (keyIn e) (keyIn f) ≡ true → eqb (jobIn e) (jobIn f) ≡ true → (c : Bool) → changing (kindIn f) ≡ c → followed t e (f ∷ fs) ≡ asked (f ∷ fs)
     on-from q j true c =
-        let stand = rw c at (both (asLeft (kindIn f) (seenIn (keyIn f) fs t)) (not (changing (kindIn f)) || all (mayStand Together f) fs) settled .1) in
-        let alike = ap₂ (λ k n. all (λ g. not (eqb k (keyIn g)) || eqb n (jobIn g)) fs) (eqb-true (keyIn e) (keyIn f) q) (eqb-true (jobIn e) (jobIn f) j) in
+        let stand = rw c at (both (asLeft (kindIn f) (seenIn (keyIn f) fs t)) (not (changing (kindIn f)) || allTrue (mayStand Together f) fs) settled .1) in
+        let alike = ap₂ (λ k n. allTrue (λ g. not (eqb k (keyIn g)) || eqb n (jobIn g)) fs) (eqb-true (keyIn e) (keyIn f) q) (eqb-true (jobIn e) (jobIn f) j) in
         rw (q, j, c, alike ∙ stand, alternate (kindIn e) (kindIn f) changes c) (sym (and-true (asLeft (kindIn e) (eqb (kindIn f) 3))))
     on-from q j false c = rw (q, j, c) rest
 

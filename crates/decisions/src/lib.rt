@@ -136,7 +136,7 @@ pub fn end_reply(
 }
 
 // What an operation with a key comes to, on sound tables.
-fn judge(
+fn judge_keyed(
     session: Session,
     tiles: &[u32],
     operations: &[u64],
@@ -178,8 +178,8 @@ pub fn operation_decision(
     if !accepted(gate) {
         return Decision::Refuse(gate);
     }
-    match tile::address(address) {
+    match address::locate(address) {
         Located::Refused => Decision::Refuse(Reply::OutOfRange),
-        Located::Key(key) => judge(session, tiles, operations, journal, job, procedure, key),
+        Located::Key(key) => judge_keyed(session, tiles, operations, journal, job, procedure, key),
     }
 }

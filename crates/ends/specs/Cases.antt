@@ -6,7 +6,9 @@ use Prim.Native.Nat.{ℕ}
 use lib.ListN.{replicate}
 use Rattle.strict.specs.Commutativity.{entryAt}
 use Rattle.strict.specs.declared.Procedure.the-variants.{Ins, Mem}
-use Rattle.service.specs.Calls.{settled, startCall}
+use Rattle.strict.specs.declared.Rule.{Rule}
+use Rattle.strict.specs.declared.Rule.the-variants.{Alone, Together}
+use Rattle.service.specs.Calls.{concluded, startCall}
 use Rattle.service.specs.Cases.{A, Exchange, _↝_, a, b, from, ok, worldAfter}
 use Rattle.service.specs.History.{opening, operating}
 use Rattle.service.specs.Journal.{encode, ruleBytes}
@@ -14,8 +16,6 @@ use Rattle.service.specs.Sound.{soundB, tabledB}
 use Rattle.service.specs.Tile.{isKey, keyOf}
 use Rattle.service.specs.Told.{bare, done}
 use Rattle.service.specs.World.{World, world}
-use Rattle.service.specs.declared.Rule.{Rule}
-use Rattle.service.specs.declared.Rule.the-variants.{Alone, Together}
 use Rattle.ends.specs.Ends.{End, after, cancels, keeps}
 
 -- job 1 put A; job 2 asked for B, that job 3 then put
@@ -59,5 +59,5 @@ pub ends-cases : after (running Alone) oneWay ∷ after (running Alone) otherWay
     ∷ left Together 58 (3 ∷ 0 ∷ 1 ∷ 1 ∷ 4 ∷ 0 ∷ 1 ∷ 2 ∷ 4 ∷ 0 ∷ 1 ∷ 3 ∷ []) (replicate 2 0)
     ∷ left Together 58 (4 ∷ 0 ∷ 1 ∷ 3 ∷ 3 ∷ 0 ∷ 1 ∷ 1 ∷ 4 ∷ 0 ∷ 1 ∷ 2 ∷ []) (replicate 2 0)
     ∷ []
-unfolding keyOf isKey tabledB soundB startCall settled encode entryAt
+unfolding keyOf isKey tabledB soundB startCall concluded encode entryAt
 ends-cases = refl

@@ -10,8 +10,8 @@ use Rattle.strict.specs.Book.{Book, others, recover, step}
 use Rattle.strict.specs.Histories.{commit, mine}
 use Rattle.strict.specs.Operations.{Op, undo}
 use Rattle.strict.specs.Sound.{SoundTable}
-use Rattle.strict.specs.Strict.{Rule}
 use Rattle.strict.specs.Tiles.{Ascending, member}
+use Rattle.strict.specs.declared.Rule.{Rule}
 use Rattle.service.specs.Admission.{State, isOpen}
 use Rattle.service.specs.History.{Call, aborting, call, committing, event}
 use Rattle.service.specs.Journal.{encode, recordOf}

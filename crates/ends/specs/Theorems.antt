@@ -10,9 +10,11 @@ use Rattle.lists.specs.Truth.{never}
 use Rattle.strict.specs.Book.{Book}
 use Rattle.strict.specs.Operations.{begun}
 use Rattle.strict.specs.Sound.{SoundEntry}
-use Rattle.strict.specs.Strict.{Log, alone}
+use Rattle.strict.specs.Strict.{Log}
 use Rattle.strict.specs.Tiles.{Ascending}
 use Rattle.strict.specs.declared.Procedure.the-variants.{Del, Ins, Mem}
+use Rattle.strict.specs.declared.Rule.{Rule}
+use Rattle.strict.specs.declared.Rule.the-variants.{Alone}
 use Rattle.service.specs.Admission.{State}
 use Rattle.service.specs.Calls.{stored}
 use Rattle.service.specs.Demands.{all-marks, reached}
@@ -23,7 +25,6 @@ use Rattle.service.specs.Sound.{soundB}
 use Rattle.service.specs.World.{World, state, usedJournal}
 use Rattle.rectangles.specs.Claims.{FromMoves, Move}
 use Rattle.rectangles.specs.Theorems.{written-out}
-use Rattle.service.specs.declared.Rule.{Rule}
 use Rattle.service.specs.declared.Session.{Session}
 use Rattle.ends.specs.Ends.{EitherFirst, End, Group, Reordered, SameEnd, behind, cancels, careful, endRecords, endedBy, greedy, keeps, wary, whose}
 use Rattle.ends.specs.Laws.Orders.{either-first}
@@ -72,9 +73,9 @@ pub greedy-order-matters : EitherFirst greedy → ⊥
 greedy-order-matters any =
     let u = begun 1 Ins 5 [] in
     let v = begun 2 Ins 6 [] in
-    let after-u : SoundEntry alone (5 ∷ 6 ∷ []) u (v ∷ []) = record { unfinished-entry = refl; as-left = λ c. refl; own-tile = λ c. (λ p. omega arith, tt) } in
-    let last : SoundEntry alone (5 ∷ 6 ∷ []) v [] = record { unfinished-entry = refl; as-left = λ c. refl; own-tile = λ c. tt } in
-    let same = any alone (record { tiles = 5 ∷ 6 ∷ []; table = u ∷ v ∷ [] }) (omega arith, tt) (after-u, (last, tt)) (cancels 1) (keeps 2) (λ p. omega arith) in
+    let after-u : SoundEntry Alone (5 ∷ 6 ∷ []) u (v ∷ []) = record { unfinished-entry = refl; as-left = λ c. refl; own-tile = λ c. (λ p. omega arith, tt) } in
+    let last : SoundEntry Alone (5 ∷ 6 ∷ []) v [] = record { unfinished-entry = refl; as-left = λ c. refl; own-tile = λ c. tt } in
+    let same = any Alone (record { tiles = 5 ∷ 6 ∷ []; table = u ∷ v ∷ [] }) (omega arith, tt) (after-u, (last, tt)) (cancels 1) (keeps 2) (λ p. omega arith) in
     let lengths : _≡_ {A = ℕ} 0 1 = ap (λ (m : Book). length (m .tiles)) same in
     omega arith
 
@@ -83,9 +84,9 @@ pub wary-order-matters : EitherFirst wary → ⊥
 wary-order-matters any =
     let u = begun 1 Mem 5 [] in
     let v = begun 2 Ins 5 [] in
-    let after-u : SoundEntry alone (5 ∷ []) u (v ∷ []) = record { unfinished-entry = refl; as-left = λ c. never (sym c); own-tile = λ c. never (sym c) } in
-    let last : SoundEntry alone (5 ∷ []) v [] = record { unfinished-entry = refl; as-left = λ c. refl; own-tile = λ c. tt } in
-    let same = any alone (record { tiles = 5 ∷ []; table = u ∷ v ∷ [] }) tt (after-u, (last, tt)) (cancels 1) (cancels 2) (λ p. omega arith) in
+    let after-u : SoundEntry Alone (5 ∷ []) u (v ∷ []) = record { unfinished-entry = refl; as-left = λ c. never (sym c); own-tile = λ c. never (sym c) } in
+    let last : SoundEntry Alone (5 ∷ []) v [] = record { unfinished-entry = refl; as-left = λ c. refl; own-tile = λ c. tt } in
+    let same = any Alone (record { tiles = 5 ∷ []; table = u ∷ v ∷ [] }) tt (after-u, (last, tt)) (cancels 1) (cancels 2) (λ p. omega arith) in
     let lengths : _≡_ {A = ℕ} 0 1 = ap (λ (m : Book). length (m .tiles)) same in
     omega arith
 

@@ -16,21 +16,21 @@ use Rattle.service.specs.Laws.Storing.{length-padded, used-padded}
 use Rattle.tiles.specs.Laws.{padded-table, used-length}
 use Rattle.tiles.specs.Table.{TileTable}
 use Rattle.engine.proofs.Laws.{undone-ascending, undone-fits}
-use Rattle.engine.specs.Undoing.{recovered, undone}
+use Rattle.engine.specs.Undoing.{recovered, recoveredJob}
 
 -- the entries es from i on have been undone
 pub record Undoing (tiles₀ : List ℕ) (count : ℕ) (es : List ℕ) (job : ℕ) (tiles : List ℕ) (left i : ℕ) : Type 0 where
   pub inside : i ≤ length es
-  pub holds : tiles ≡ padded (length tiles₀) (undone job (drop i es) (take count tiles₀))
-  pub number : left ≡ length (undone job (drop i es) (take count tiles₀))
+  pub holds : tiles ≡ padded (length tiles₀) (recoveredJob job (drop i es) (take count tiles₀))
+  pub number : left ≡ length (recoveredJob job (drop i es) (take count tiles₀))
 
 -- one entry more
 undone-from : (job i : ℕ) (es t : List ℕ) → 0 < i → i ≤ length es
-    → undone job (drop (i - 1) es) t ≡ cond (eqb job (jobIn (getD es (i - 1) 0))) (recovered (getD es (i - 1) 0) (undone job (drop i es) t)) (undone job (drop i es) t)
+    → recoveredJob job (drop (i - 1) es) t ≡ cond (eqb job (jobIn (getD es (i - 1) 0))) (recovered (getD es (i - 1) 0) (recoveredJob job (drop i es) t)) (recoveredJob job (drop i es) t)
 undone-from job i es t some inside =
     let next : suc (i - 1) ≡ i = omega arith in
-    ap (λ l. undone job l t) (drop-cons es (i - 1) 0 (omega arith))
-    ∙ ap (λ n. cond (eqb job (jobIn (getD es (i - 1) 0))) (recovered (getD es (i - 1) 0) (undone job (drop n es) t)) (undone job (drop n es) t)) next
+    ap (λ l. recoveredJob job l t) (drop-cons es (i - 1) 0 (omega arith))
+    ∙ ap (λ n. cond (eqb job (jobIn (getD es (i - 1) 0))) (recovered (getD es (i - 1) 0) (recoveredJob job (drop n es) t)) (recoveredJob job (drop n es) t)) next
 
 module _ (tiles₀ : List ℕ) (count : ℕ) (es : List ℕ) (job : ℕ) (table : TileTable tiles₀ count) (room : length (take count tiles₀) + counted (take count tiles₀) (map opIn es) ≤ length tiles₀) where
   abbrev State : List ℕ → ℕ → ℕ → Type 0
@@ -41,28 +41,28 @@ module _ (tiles₀ : List ℕ) (count : ℕ) (es : List ℕ) (job : ℕ) (table 
       let none : drop i es ≡ [] = drop-of-length-le es {i = i} (omega arith) in
       record { inside = omega arith; holds = rw none (table .zeros-behind); number = rw none (sym (used-length table)) }
 
-  fits : (i : ℕ) → length (undone job (drop i es) (take count tiles₀)) ≤ length tiles₀
+  fits : (i : ℕ) → length (recoveredJob job (drop i es) (take count tiles₀)) ≤ length tiles₀
   fits i = omega (arith, undone-fits job i es (take count tiles₀) (table .ascending))
 
   module _ (tiles : List ℕ) (left i : ℕ) (s : State tiles left i) where
-    pub used-now : take left tiles ≡ undone job (drop i es) (take count tiles₀)
-    used-now = rw (s .number, s .holds) (used-padded (length tiles₀) (undone job (drop i es) (take count tiles₀)))
+    pub used-now : take left tiles ≡ recoveredJob job (drop i es) (take count tiles₀)
+    used-now = rw (s .number, s .holds) (used-padded (length tiles₀) (recoveredJob job (drop i es) (take count tiles₀)))
 
     pub same-places : length tiles ≡ length tiles₀
-    same-places = ap length (s .holds) ∙ length-padded (length tiles₀) (undone job (drop i es) (take count tiles₀)) (fits i)
+    same-places = ap length (s .holds) ∙ length-padded (length tiles₀) (recoveredJob job (drop i es) (take count tiles₀)) (fits i)
 
     pub table-now : TileTable tiles left
     table-now =
         rw (s .number, s .holds)
-        (padded-table (length tiles₀) (undone job (drop i es) (take count tiles₀)) (fits i) (undone-ascending job (drop i es) (take count tiles₀) (table .ascending)))
+        (padded-table (length tiles₀) (recoveredJob job (drop i es) (take count tiles₀)) (fits i) (undone-ascending job (drop i es) (take count tiles₀) (table .ascending)))
 
     module _ (e : ℕ) (some : 0 < i) (read : e ≡ getD es (i - 1) 0) where
-      taken : jobIn e ≡ job → undone job (drop (i - 1) es) (take count tiles₀) ≡ recovered e (take left tiles)
+      taken : jobIn e ≡ job → recoveredJob job (drop (i - 1) es) (take count tiles₀) ≡ recovered e (take left tiles)
       taken own =
           undone-from job i es (take count tiles₀) some (s .inside)
           ∙ rw (← read, eq-eqb job (jobIn e) (sym own)) (ap (recovered e) (sym used-now))
 
-      passed : jobIn e ≢ job → undone job (drop (i - 1) es) (take count tiles₀) ≡ undone job (drop i es) (take count tiles₀)
+      passed : jobIn e ≢ job → recoveredJob job (drop (i - 1) es) (take count tiles₀) ≡ recoveredJob job (drop i es) (take count tiles₀)
       passed other = undone-from job i es (take count tiles₀) some (s .inside) ∙ rw (← read, ne-eqb job (jobIn e) (λ p. other (sym p)))
 
       pub recovery-fits : jobIn e ≡ job → length (recovered e (take left tiles)) ≤ length tiles

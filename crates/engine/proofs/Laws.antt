@@ -15,14 +15,14 @@ use Rattle.strict.specs.Laws.Counted.{counted-abort}
 use Rattle.strict.specs.Laws.Members.{ascending-apply}
 use Rattle.strict.specs.Laws.Room.{length-insert}
 use Rattle.strict.specs.Operations.{clear, put}
-use Rattle.strict.specs.Tiles.{Ascending, delete, insert, member}
+use Rattle.strict.specs.Tiles.{Ascending, delete, insertTile, member}
 use Rattle.tiles.specs.Laws.{used-length}
 use Rattle.tiles.specs.Table.{TileTable}
 use Rattle.engine.specs.Forms.{recover-entries}
-use Rattle.engine.specs.Undoing.{recovered, undone}
+use Rattle.engine.specs.Undoing.{recovered, recoveredJob}
 
 -- where the tiles fit with the key among them, there is a place for it
-pub place-for : {l : List ℕ} {count : ℕ} → TileTable l count → (k : ℕ) → length (insert k (take count l)) ≤ length l → member k (take count l) ≡ false → count < length l
+pub place-for : {l : List ℕ} {count : ℕ} → TileTable l count → (k : ℕ) → length (insertTile k (take count l)) ≤ length l → member k (take count l) ≡ false → count < length l
 place-for {l} {count} t k fit absent =
     let n = used-length t in
     let e = rw absent at (length-insert k (take count l) (t .ascending)) in
@@ -33,7 +33,7 @@ module _ (e : ℕ) (t : List ℕ) where
   pub recovered-one : kindIn e ≡ 1 → recovered e t ≡ delete (keyIn e) t
   recovered-one h = rw h
 
-  pub recovered-three : kindIn e ≡ 3 → recovered e t ≡ insert (keyIn e) t
+  pub recovered-three : kindIn e ≡ 3 → recovered e t ≡ insertTile (keyIn e) t
   recovered-three h = rw h
 
   pub recovered-other : kindIn e ≢ 1 → kindIn e ≢ 3 → recovered e t ≡ t
@@ -44,11 +44,11 @@ recovered-ascending e t asc =
     by-cond Ascending (eqb (kindIn e) 1) (λ _. ascending-apply clear (keyIn e) t asc)
     (λ _. by-cond Ascending (eqb (kindIn e) 3) (λ _. ascending-apply put (keyIn e) t asc) (λ _. asc))
 
-pub undone-ascending : (job : ℕ) (es t : List ℕ) → Ascending t → Ascending (undone job es t)
+pub undone-ascending : (job : ℕ) (es t : List ℕ) → Ascending t → Ascending (recoveredJob job es t)
 undone-ascending job [] t asc = asc
 undone-ascending job (e ∷ es) t asc =
     let ih = undone-ascending job es t asc in
-    by-cond Ascending (eqb job (jobIn e)) (λ _. recovered-ascending e (undone job es t) ih) (λ _. ih)
+    by-cond Ascending (eqb job (jobIn e)) (λ _. recovered-ascending e (recoveredJob job es t) ih) (λ _. ih)
 
 -- entries that are left out are not counted
 counted-from : (i : ℕ) (es t : List ℕ) → counted t (map opIn (drop i es)) ≤ counted t (map opIn es)
@@ -57,7 +57,7 @@ counted-from (suc i) [] t = omega arith
 counted-from (suc i) (e ∷ es) t = let ih = counted-from i es t in omega arith
 
 -- the recoveries of the entries from i on leave no more tiles than are there or counted
-pub undone-fits : (job i : ℕ) (es t : List ℕ) → Ascending t → length (undone job (drop i es) t) ≤ length t + counted t (map opIn es)
+pub undone-fits : (job i : ℕ) (es t : List ℕ) → Ascending t → length (recoveredJob job (drop i es) t) ≤ length t + counted t (map opIn es)
 undone-fits job i es t asc =
     let left = counted-abort job t (map opIn (drop i es)) asc in
     let same = ap length (recover-entries job (drop i es) t) in

@@ -8,9 +8,9 @@ use Rattle.service.specs.Laws.Standing.{Named}
 use Rattle.service.specs.Sound.{Tabled}
 use Rattle.service.specs.Told.{refused}
 use Rattle.service.specs.World.{World, state}
-use Rattle.service.specs.declared.Rule.the-variants.{Together}
 use Rattle.service.specs.declared.Session.{Session}
 use Rattle.strict.specs.Histories.{Event}
+use Rattle.strict.specs.declared.Rule.the-variants.{Together}
 
 -- the tables are sound, the event names a job and a key, and nothing but the journal may refuse it
 pub record Ready (w : World) (e : Event) : Type 0 where
@@ -18,8 +18,8 @@ pub record Ready (w : World) (e : Event) : Type 0 where
   pub named : Named e
   pub unrefused-by : refused (refusals (length (w .tiles)) (length (w .operations)) (state w) e) ≡ false
 
-abbrev pub opened : Session → ℕ → Session
-opened s job = record { rule = s .rule; marks = set (s .marks) job true; tiles = s .tiles; operations = s .operations; journal = s .journal }
+abbrev pub markedOpen : Session → ℕ → Session
+markedOpen s job = record { rule = s .rule; marks = set (s .marks) job true; tiles = s .tiles; operations = s .operations; journal = s .journal }
 
 -- the job is closed, with these counts of tiles and operations
 abbrev pub closed : Session → ℕ → ℕ → ℕ → Session

@@ -4,13 +4,13 @@ use mathlib.Core.List.{List, [], _∷_}
 use Prim.Native.Nat.{ℕ}
 use lib.Dec.{eqb}
 use Rattle.service.specs.Entry.{jobIn, keyIn, kindIn}
-use Rattle.strict.specs.Tiles.{delete, insert}
+use Rattle.strict.specs.Tiles.{delete, insertTile}
 
 -- one entry's recovery: kind 1 is undone by del, kind 3 by ins, the others by nothing
 abbrev pub recovered : ℕ → List ℕ → List ℕ
-recovered e t = cond (eqb (kindIn e) 1) (delete (keyIn e) t) (cond (eqb (kindIn e) 3) (insert (keyIn e) t) t)
+recovered e t = cond (eqb (kindIn e) 1) (delete (keyIn e) t) (cond (eqb (kindIn e) 3) (insertTile (keyIn e) t) t)
 
 -- those of a job's entries, newest first
-abbrev pub undone : ℕ → List ℕ → List ℕ → List ℕ
-undone job [] t = t
-undone job (e ∷ es) t = cond (eqb job (jobIn e)) (recovered e (undone job es t)) (undone job es t)
+abbrev pub recoveredJob : ℕ → List ℕ → List ℕ → List ℕ
+recoveredJob job [] t = t
+recoveredJob job (e ∷ es) t = cond (eqb job (jobIn e)) (recovered e (recoveredJob job es t)) (recoveredJob job es t)

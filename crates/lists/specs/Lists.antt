@@ -9,20 +9,20 @@ use lib.ListN.{drop-of-length-le, getD, length, length-take, set, take}
 use lib.Seq.{sets, slice, slice-cons}
 use Rattle.lists.specs.Truth.{and-both, both}
 
-abbrev pub all : {A : Type 0} → (A → Bool) → List A → Bool
-all f [] = true
-all f (x ∷ xs) = f x && all f xs
+abbrev pub allTrue : {A : Type 0} → (A → Bool) → List A → Bool
+allTrue f [] = true
+allTrue f (x ∷ xs) = f x && allTrue f xs
 
 abbrev pub All : {A : Type 0} → (A → Type 0) → List A → Type 0
 All P [] = Unit {0}
 All P (x ∷ xs) = P x × All P xs
 
 module _ {A : Type 0} (f : A → Bool) (P : A → Type 0) where
-  pub all-is : ((x : A) → f x ≡ true → P x) → (xs : List A) → all f xs ≡ true → All P xs
+  pub all-is : ((x : A) → f x ≡ true → P x) → (xs : List A) → allTrue f xs ≡ true → All P xs
   all-is g [] e = tt
-  all-is g (x ∷ xs) e = let p = both (f x) (all f xs) e in (g x (p .0), all-is g xs (p .1))
+  all-is g (x ∷ xs) e = let p = both (f x) (allTrue f xs) e in (g x (p .0), all-is g xs (p .1))
 
-  pub is-all : ((x : A) → P x → f x ≡ true) → (xs : List A) → All P xs → all f xs ≡ true
+  pub is-all : ((x : A) → P x → f x ≡ true) → (xs : List A) → All P xs → allTrue f xs ≡ true
   is-all g [] h = refl
   is-all g (x ∷ xs) h = and-both (g x (h .0)) (is-all g xs (h .1))
 

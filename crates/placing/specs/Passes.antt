@@ -9,8 +9,8 @@ use lib.ListN.{length, take}
 use Rattle.lists.specs.Lists.{All}
 use Rattle.strict.specs.Book.{Book, heldBy, needsPlace, spokenFor}
 use Rattle.strict.specs.Operations.{begun}
-use Rattle.strict.specs.Strict.{Rule}
 use Rattle.strict.specs.declared.Procedure.{Procedure}
+use Rattle.strict.specs.declared.Rule.{Rule}
 use Rattle.service.specs.Admission.{openMarks}
 use Rattle.service.specs.Tile.{isKey}
 use Rattle.service.specs.Told.{Refusal, Told, bare, decided}

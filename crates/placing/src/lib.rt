@@ -5,7 +5,6 @@ ghost use mathlib.Core.Path.{_≡_};
 ghost use Prim.Native.Nat.{_+_, _<_, _≤_};
 ghost use lib.ListN.{length, take};
 ghost use Rattle.lists.specs.Truth.{oneIf};
-ghost use Rattle.service.specs.Admission.{ruleOf};
 ghost use Rattle.service.specs.Sound.{Sound, Tabled};
 ghost use Rattle.service.specs.Told.{bare, decided, told};
 ghost use Rattle.service.specs.World.{reported, state, world};
@@ -46,7 +45,7 @@ fn look_at(
     key: u32,
 ) -> Seen
     requires { ⌜ Tabled (world session (now tiles) (now operations) []) ⌝ }
-    ensures { λ r. ⌜ r ≡ lookOf (ruleOf (session .rule)) (state (world session (now (tiles .entry)) (now (operations .entry)) []) .book) job procedure key ⌝ }
+    ensures { λ r. ⌜ r ≡ lookOf (session .rule) (state (world session (now (tiles .entry)) (now (operations .entry)) []) .book) job procedure key ⌝ }
 {
     let rule = session.rule;
     let count = session.tiles;
@@ -70,7 +69,7 @@ fn look_past(
     met: bool,
 ) -> Seen
     requires { ⌜ Tabled (world session (now tiles) (now operations) []) × (met ≡ false → elsewhere key (take (session .operations) (now operations)) ≡ true) ⌝ }
-    ensures { λ r. ⌜ r ≡ lookOf (ruleOf (session .rule)) (state (world session (now (tiles .entry)) (now (operations .entry)) []) .book) job procedure key ⌝ }
+    ensures { λ r. ⌜ r ≡ lookOf (session .rule) (state (world session (now (tiles .entry)) (now (operations .entry)) []) .book) job procedure key ⌝ }
 {
     if met {
         return look_at(session, tiles, operations, job, procedure, key);
@@ -104,7 +103,7 @@ fn look_all(
 ) -> Found
     requires { ⌜ Tabled (world session (now tiles) (now operations) []) × (n ≤ length (now keys)) × (n ≤ 256)
         × (length (now filter) ≡ 1024) × Covers (now filter) (take (session .operations) (now operations)) ⌝ }
-    ensures { λ r. ⌜ r ≡ listOf (ruleOf (session .rule)) (state (world session (now (tiles .entry)) (now (operations .entry)) []) .book) job procedure
+    ensures { λ r. ⌜ r ≡ listOf (session .rule) (state (world session (now (tiles .entry)) (now (operations .entry)) []) .book) job procedure
         (take n (now (keys .entry))) ⌝ }
 {
     let mut need: usize = 0;

@@ -6,7 +6,9 @@ use Prim.Native.Nat.{ℕ}
 use lib.IntN.{negsuc, pos, ℤ}
 use Rattle.strict.specs.Commutativity.{entryAt}
 use Rattle.strict.specs.declared.Procedure.the-variants.{Ins}
-use Rattle.service.specs.Calls.{settled, startCall}
+use Rattle.strict.specs.declared.Rule.{Rule}
+use Rattle.strict.specs.declared.Rule.the-variants.{Alone, Together}
+use Rattle.service.specs.Calls.{concluded, startCall}
 use Rattle.service.specs.Cases.{address, from}
 use Rattle.service.specs.History.{aborting, committing, opening, operating}
 use Rattle.service.specs.Journal.{encode}
@@ -14,8 +16,6 @@ use Rattle.service.specs.Sound.{soundB, tabledB}
 use Rattle.service.specs.Tile.{columnIn, isKey, keyOf, rowIn}
 use Rattle.service.specs.Told.{Told, bare, done}
 use Rattle.service.specs.World.{World, usedTiles}
-use Rattle.service.specs.declared.Rule.{Rule}
-use Rattle.service.specs.declared.Rule.the-variants.{Alone, Together}
 use Rattle.rectangles.specs.Claims.{Move, moved, plain, rectangle}
 use Rattle.rectangles.specs.Rectangles.{keys, listed, misshapen, outOfRange, rectangleCall}
 use Rattle.rectangles.specs.declared.Change.the-variants.{Delete, Insert}
@@ -143,9 +143,9 @@ played x =
     play (x .by) (x .tiles) (x .places) (x .slots) (x .bytes) (x .asked) (toldBy w (x .asked)) (usedTiles (worldAfter w (x .asked)))
 
 pub plays-hold : map played plays ≡ plays
-unfolding keyOf isKey tabledB soundB startCall settled encode entryAt rectangleCall
+unfolding keyOf isKey tabledB soundB startCall concluded encode entryAt rectangleCall
 plays-hold = refl
 
 pub own-plays : map played ownPlays ≡ ownPlays
-unfolding keyOf isKey tabledB soundB startCall settled encode entryAt rectangleCall
+unfolding keyOf isKey tabledB soundB startCall concluded encode entryAt rectangleCall
 own-plays = refl

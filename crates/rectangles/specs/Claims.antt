@@ -15,8 +15,8 @@ use Rattle.strict.specs.Commutativity.{FirstHolder}
 use Rattle.strict.specs.Histories.{operation}
 use Rattle.strict.specs.Operations.{begun}
 use Rattle.strict.specs.Strict.{Log, _▷_, empty}
-use Rattle.strict.specs.Strict as theory
 use Rattle.strict.specs.declared.Procedure.{Procedure}
+use Rattle.strict.specs.declared.Rule.{Rule}
 use Rattle.service.specs.Admission.{isOpen}
 use Rattle.service.specs.Calls.{startCall}
 use Rattle.service.specs.History.{Call, call, operating}
@@ -25,7 +25,6 @@ use Rattle.service.specs.Sound.{soundB}
 use Rattle.service.specs.Tile.{keyAt}
 use Rattle.service.specs.World.{Reported, World, state}
 use Rattle.service.specs.declared.Address.{Address}
-use Rattle.service.specs.declared.Rule.{Rule}
 use Rattle.rectangles.specs.Rectangles.{height, keyFor, listed, misshapen, outOfRange, procedureFor, rectangleCall, width}
 use Rattle.rectangles.specs.declared.Change.{Change}
 use Rattle.rectangles.specs.declared.Rectangle.{Rectangle}
@@ -77,7 +76,7 @@ recordsOf job p [] = []
 recordsOf job p (a ∷ xs) = encode (recordOf (operation job p (keyFor a)) true) ++ recordsOf job p xs
 
 -- THE ROOM OF EACH KIND, JUDGED ALONE: it runs out where the list is taken tile after tile
-abbrev pub placesRunOut : theory.Rule → ℕ → Book → ℕ → Procedure → List ℕ → Bool
+abbrev pub placesRunOut : Rule → ℕ → Book → ℕ → Procedure → List ℕ → Bool
 placesRunOut rule places m job p [] = false
 placesRunOut rule places m job p (k ∷ ks) =
     (needsPlace rule (m .table) (begun job p k (m .tiles)) && eqb (spokenFor rule m) places) || placesRunOut rule places (step m (operation job p k)) job p ks
@@ -97,7 +96,7 @@ pub record Ready (w : World) (job : ℕ) : Type 0 where
   pub is-open : isOpen (state w) job ≡ true
 
 -- of the tiles ks, in order, the first that is held, and the first entry that holds it
-pub record FirstHeld (rule : theory.Rule) (m : Book) (job : ℕ) (p : Procedure) (ks : List ℕ) (holder : ℕ) : Type 0 where
+pub record FirstHeld (rule : Rule) (m : Book) (job : ℕ) (p : Procedure) (ks : List ℕ) (holder : ℕ) : Type 0 where
   pub earlier : List ℕ
   pub tile : ℕ
   pub later : List ℕ

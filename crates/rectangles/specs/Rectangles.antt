@@ -10,10 +10,10 @@ use Rattle.lists.specs.Truth.{oneIf}
 use Rattle.strict.specs.Book.{Book, heldBy, needsPlace, spokenFor}
 use Rattle.strict.specs.Histories.{operation}
 use Rattle.strict.specs.Operations.{begun}
-use Rattle.strict.specs.Strict.{Rule}
 use Rattle.strict.specs.declared.Procedure.{Procedure}
 use Rattle.strict.specs.declared.Procedure.the-variants.{Del, Ins}
-use Rattle.service.specs.Admission.{isOpen, openMarks, ruleOf}
+use Rattle.strict.specs.declared.Rule.{Rule}
+use Rattle.service.specs.Admission.{isOpen, openMarks}
 use Rattle.service.specs.Calls.{carried}
 use Rattle.service.specs.Sound.{soundB}
 use Rattle.service.specs.Tile.{addressCall}
@@ -92,7 +92,7 @@ needed rule m job p (k ∷ ks) = oneIf (needsPlace rule (m .table) (begun job p 
 
 -- the rule by which the tables of w are judged
 abbrev pub ruledBy : World → Rule
-ruledBy w = ruleOf (w .session .rule)
+ruledBy w = (w .session .rule)
 
 -- 7: more than are free; 8: the list is longer than the free operation places; 9: there are fewer than 10 bytes a tile and 4 an open job
 abbrev pub fewPlaces : World → ℕ → Procedure → List ℕ → Bool

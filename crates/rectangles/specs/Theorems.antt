@@ -14,8 +14,10 @@ use Rattle.strict.specs.Book.{heldBy}
 use Rattle.strict.specs.Choices.{Choice}
 use Rattle.strict.specs.Histories.{kept, opened}
 use Rattle.strict.specs.Operations.{Op}
-use Rattle.strict.specs.Strict.{Log, Strict, alone, run}
+use Rattle.strict.specs.Strict.{Log, Strict, run}
 use Rattle.strict.specs.Tiles.{member}
+use Rattle.strict.specs.declared.Rule.{Rule}
+use Rattle.strict.specs.declared.Rule.the-variants.{Alone}
 use Rattle.service.specs.Admission.{isOpen, openMarks}
 use Rattle.service.specs.Claims.{Keeps, Reads, RebuildsAlone, Stops}
 use Rattle.service.specs.Demands.{replay-exact}
@@ -24,15 +26,13 @@ use Rattle.service.specs.Journal.{readAt}
 use Rattle.service.specs.Sound.{soundB}
 use Rattle.service.specs.World.{World, freeBytes, state, usedJournal}
 use Rattle.service.specs.declared.Record.{Record}
-use Rattle.service.specs.declared.Rule.{Rule}
-use Rattle.service.specs.declared.Rule.the-variants.{Alone}
 use Rattle.rectangles.specs.Claims.{AllDone, Apart, Before, FirstHeld, FromMoves, Inside, Misshapen, Move, Ready, Shaped, bytesRunOut, callsOf, followed, leftBy, placesRunOut, recordsOf, refusing, slotsRunOut, written}
 use Rattle.rectangles.specs.Laws.Demanding.{rectangle-accepted, rectangle-held, rectangle-room-just}
 use Rattle.rectangles.specs.Laws.Judging.{told-first, told-five, told-held, told-room, told-thirteen}
 use Rattle.rectangles.specs.Laws.Keeping.{all-keep, all-write}
 use Rattle.rectangles.specs.Laws.Listing.{length-sequence, span-within, within-span}
 use Rattle.rectangles.specs.Laws.Tiles.{all-apart, in-order, listed-exactly}
-use Rattle.rectangles.specs.Laws.Whole.{done-shaped, rectangle-ready, moves-written, told-among, whole-done, whole-leaves}
+use Rattle.rectangles.specs.Laws.Whole.{done-shaped, moves-written, rectangle-ready, told-among, whole-done, whole-leaves}
 use Rattle.rectangles.specs.Rectangles.{carriedAll, height, keys, listed, outOfRange, procedureFor, rectangleCall, ruledBy, span, tileAt, width}
 use Rattle.rectangles.specs.declared.Change.{Change}
 use Rattle.rectangles.specs.declared.Rectangle.{Rectangle}
@@ -147,17 +147,17 @@ module _ {tiles : List ℕ} {count : ℕ} {operations journal : List ℕ} {cs : 
   with-them = kept start-tiles (history (followed cs (callsOf job change r)))
 
   -- held just where the history with its operations added would not be strict
-  pub rectangle-held-exact : (rectangleCall w job change r .told .number ≡ 6) ↔ (Strict alone start-tiles with-them → ⊥)
+  pub rectangle-held-exact : (rectangleCall w job change r .told .number ≡ 6) ↔ (Strict Alone start-tiles with-them → ⊥)
   rectangle-held-exact = rectangle-held from job change r is-open shaped
 
   -- and, where that is strict, refused for want of tile room just where some choice of the kept operations leaves more tiles than there are places
-  pub rectangle-room-exact : Strict alone start-tiles with-them
+  pub rectangle-room-exact : Strict Alone start-tiles with-them
       → (rectangleCall w job change r .told .number ≡ 7) ↔ ((chosen : Log Op) × Choice with-them chosen × (length (w .tiles) < length (run start-tiles chosen)))
   rectangle-room-exact strict = rectangle-room-just from job change r is-open shaped strict
 
   -- done just where it stays strict, no choice needs more tiles than there are places, and there are the entries' places and the bytes
   pub rectangle-accepted-exact : (rectangleCall w job change r .told .number ≡ 0)
-      ↔ (Strict alone start-tiles with-them
+      ↔ (Strict Alone start-tiles with-them
       × ((chosen : Log Op) → Choice with-them chosen → length (run start-tiles chosen) ≤ length (w .tiles))
       × (length (state w .book .table) + length (keys (listed r)) ≤ length (w .operations))
       × (10 * length (keys (listed r)) + 4 * openMarks (w .session .marks) ≤ freeBytes w))

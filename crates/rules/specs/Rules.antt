@@ -4,11 +4,10 @@ use mathlib.Core.List.{List}
 use Prim.Native.Nat.{ℕ}
 use lib.Dec.{eqb}
 use Rattle.entries.specs.Table.{opposes, othersChange}
-use Rattle.service.specs.declared.Rule.{Rule}
-use Rattle.service.specs.declared.Rule.the-variants.{Alone, Together}
 use Rattle.strict.specs.Book.{deleted}
 use Rattle.strict.specs.Operations.{Op}
-use Rattle.strict.specs.Strict as theory
+use Rattle.strict.specs.declared.Rule.{Rule}
+use Rattle.strict.specs.declared.Rule.the-variants.{Alone, Together}
 
 -- an entry holds a new operation of this job and kind on the tile `key`
 abbrev pub holdsBy : Rule → ℕ → ℕ → ℕ → ℕ → Bool
@@ -16,6 +15,6 @@ holdsBy Alone job n key e = opposes n key e
 holdsBy Together job n key e = othersChange job key e
 
 -- an operation of this kind on the tile `key` needs a place more, where these are unfinished
-abbrev pub wantsPlace : theory.Rule → List Op → ℕ → ℕ → Bool
-wantsPlace theory.alone us n key = eqb n 1
-wantsPlace theory.together us n key = eqb n 1 && not (deleted key us)
+abbrev pub wantsPlace : Rule → List Op → ℕ → ℕ → Bool
+wantsPlace Alone us n key = eqb n 1
+wantsPlace Together us n key = eqb n 1 && not (deleted key us)

@@ -4,15 +4,14 @@ ghost use mathlib.Core.Path.{_≡_};
 ghost use Prim.Native.Nat.{_≤_};
 ghost use lib.ListN.{length, take};
 ghost use Rattle.strict.specs.Book.{besides};
-ghost use Rattle.service.specs.Admission.{ruleOf};
 ghost use Rattle.service.specs.Entry.{opIn};
 ghost use Rattle.service.specs.Sound.{settledB};
 ghost use Rattle.tiles.specs.Table.{TileTable};
 ghost use Rattle.entries.specs.Table.{firstPlace};
 ghost use Rattle.rules.specs.Rules.{holdsBy, wantsPlace};
 use entries::Holder;
-use service::Rule;
 use service::Session;
+use strict::Rule;
 
 // Whether the tiles are as the entries left them, and only such entries follow one that changed its tile as may.
 pub fn is_settled(session: Session, tiles: &[u32], operations: &[u64]) -> bool
@@ -29,7 +28,7 @@ pub fn is_settled(session: Session, tiles: &[u32], operations: &[u64]) -> bool
 // How many tile places are spoken for besides those of the tiles.
 pub fn count_besides(session: Session, tiles: &[u32], operations: &[u64]) -> usize
     requires { ⌜ TileTable (now tiles) (session .tiles) × (session .operations ≤ length (now operations)) × (session .operations ≤ 1024) ⌝ }
-    ensures { λ r. ⌜ (r ≡ besides (ruleOf (session .rule)) (take (session .tiles) (now (tiles .entry))) (map opIn (take (session .operations) (now (operations .entry)))))
+    ensures { λ r. ⌜ (r ≡ besides (session .rule) (take (session .tiles) (now (tiles .entry))) (map opIn (take (session .operations) (now (operations .entry)))))
         × (r ≤ 1024) ⌝ }
 {
     let rule = session.rule;
@@ -44,7 +43,7 @@ pub fn count_besides(session: Session, tiles: &[u32], operations: &[u64]) -> usi
 // Whether an operation of this kind needs a tile place more.
 pub fn needs_place(rule: Rule, operations: &[u64], used: usize, kind: usize, key: u32) -> bool
     requires { ⌜ used ≤ length (now operations) ⌝ }
-    ensures { λ r. ⌜ r ≡ wantsPlace (ruleOf rule) (map opIn (take used (now (operations .entry)))) kind key ⌝ }
+    ensures { λ r. ⌜ r ≡ wantsPlace rule (map opIn (take used (now (operations .entry)))) kind key ⌝ }
 {
     if kind != 1 {
         return false;

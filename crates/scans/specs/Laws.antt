@@ -10,9 +10,9 @@ use lib.ListN.{getD, length, take}
 use lib.Seq.{slice}
 use Rattle.lists.specs.Lists.{slice-next}
 use Rattle.lists.specs.Truth.{or-left, or-right}
+use Rattle.strict.specs.declared.Rule.{Rule}
 use Rattle.service.specs.Entry.{kindIn}
 use Rattle.service.specs.Sound.{changing, settledB}
-use Rattle.service.specs.declared.Rule.{Rule}
 use Rattle.scans.specs.Tests.{settledAt}
 
 module _ (r : Rule) (t l : List ℕ) (n i : ℕ) (fits : n ≤ length l) where

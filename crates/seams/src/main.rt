@@ -5,9 +5,9 @@ use service::Address;
 use service::Located;
 use service::Outcome;
 use service::Reply;
-use service::Rule;
 use service::Session;
 use strict::Procedure;
+use strict::Rule;
 use terminal::print;
 use terminal::print_number;
 

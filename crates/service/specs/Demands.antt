@@ -17,11 +17,13 @@ use Rattle.strict.specs.Choices.{Choice}
 use Rattle.strict.specs.Commutativity.{FirstHolder}
 use Rattle.strict.specs.Histories.{kept, opened, unfinished}
 use Rattle.strict.specs.Operations.{Op, begun}
-use Rattle.strict.specs.Strict.{Log, Strict, _▷_, alone, inGroups, run, without}
+use Rattle.strict.specs.Strict.{Log, Strict, _▷_, inGroups, run, without}
 use Rattle.strict.specs.Theorems.{admitted-strict, room-is-enough}
 use Rattle.strict.specs.declared.Procedure.{Procedure}
-use Rattle.service.specs.Admission.{State, answerOn, answerTo, isOpen, openMarks, ruleOf}
-use Rattle.service.specs.Calls.{abortCall, carried, commitCall, fresh, openCall, operationCall, ruledWorld, settled, startCall, startWorld}
+use Rattle.strict.specs.declared.Rule.{Rule}
+use Rattle.strict.specs.declared.Rule.the-variants.{Alone, Together}
+use Rattle.service.specs.Admission.{State, answerOn, answerTo, isOpen, openMarks}
+use Rattle.service.specs.Calls.{abortCall, carried, commitCall, concluded, fresh, openCall, operationCall, ruledWorld, startCall, startWorld}
 use Rattle.service.specs.Claims.{Because, ChangedByOther, Halts, Keeps, NoRoomByJob, Reached, Reads, RebuildsAlone, Stops, records, tilesAfter}
 use Rattle.service.specs.Entry.{opIn}
 use Rattle.service.specs.History.{Call, From, call, event, history, jobOf, operating, refusalsOf}
@@ -49,12 +51,10 @@ use Rattle.service.specs.World.{Reported, World, freeBytes, state, usedJ
 use Rattle.service.specs.declared.Address.{Address}
 use Rattle.service.specs.declared.Read.the-variants.{End, Ruled, Whole}
 use Rattle.service.specs.declared.Record.{Record}
-use Rattle.service.specs.declared.Rule.{Rule}
-use Rattle.service.specs.declared.Rule.the-variants.{Alone, Together}
 
 -- 1. ONE NUMBER FROM THE LIST, AND A REFUSAL CHANGES NOTHING
 pub refusal-changes-nothing : (w : World) (c : Call) → call w c .told .number ≢ 0 → (call w c .after ≡ w) × (call w c .told .number ≤ 9)
-unfolding settled
+unfolding concluded
 refusal-changes-nothing w c n = (
   ap (λ b. cond b (carried w (event c)) w) (ne-eqb (call w c .told .number) 0 n),
   decided-small (refusalsOf w c) (done (answerTo (state w) (event c))) (omega arith) (small w c),
@@ -164,7 +164,7 @@ accepted-writes w c full ok = ap (λ (v : World). v .journal) (left-carried w c 
 -- an open job can commit, and can abort
 pub ends-accepted : (w : World) (job : ℕ) → length (w .session .marks) ≡ 64 → soundB w ≡ true → isOpen (state w) job ≡ true
     → (commitCall w job .told ≡ bare 0) × (abortCall w job .told ≡ bare 0)
-unfolding settled
+unfolding concluded
 ends-accepted w job full sound is-open =
     let l = open-small (w .session .marks) job is-open in
     let j = le-ltb 63 job (omega arith) in
@@ -174,7 +174,7 @@ ends-accepted w job full sound is-open =
 pub held-names-first : (w : World) (job : ℕ) (p : Procedure) (a : Address) (k holder : ℕ)
     → soundB w ≡ true → job ≤ 63 → isOpen (state w) job ≡ true → keyOf a ≡ some k
     → (operationCall w job p a .told ≡ record { number = 6; answer = 0; holder = holder })
-    ↔ FirstHolder (ruleOf (w .session .rule)) (begun job p (addressCall a .key) (usedTiles w)) (map opIn (usedOperations w)) holder
+    ↔ FirstHolder (w .session .rule) (begun job p (addressCall a .key) (usedTiles w)) (map opIn (usedOperations w)) holder
 held-names-first w job p a k holder sound small is-open has-key = held-names w job p a k sound small is-open has-key holder
 
 -- where a job fails as one: just where an unfinished entry of another job changed that tile
@@ -187,9 +187,9 @@ held-own w job p a k rule sound small is-open has-key = held-by-other w job p a 
 pub room-given : (w : World) (job : ℕ) (p : Procedure) (a : Address) (k : ℕ)
     → soundB w ≡ true → job ≤ 63 → isOpen (state w) job ≡ true → keyOf a ≡ some k
     → (operationCall w job p a .told .number ≡ 7)
-    ↔ ((heldBy (ruleOf (w .session .rule)) (state w .book) job p (addressCall a .key) ≡ none)
-    × (needsPlace (ruleOf (w .session .rule)) (state w .book .table) (begun job p (addressCall a .key) (usedTiles w)) ≡ true)
-    × (spokenFor (ruleOf (w .session .rule)) (state w .book) ≡ length (w .tiles)))
+    ↔ ((heldBy (w .session .rule) (state w .book) job p (addressCall a .key) ≡ none)
+    × (needsPlace (w .session .rule) (state w .book .table) (begun job p (addressCall a .key) (usedTiles w)) ≡ true)
+    × (spokenFor (w .session .rule) (state w .book) ≡ length (w .tiles)))
 room-given w job p a k sound small is-open has-key = room-told w job p a k sound small is-open has-key
 
 -- where a job fails as one: just where it is an ins of an absent tile that is not counted, and the tiles with those that are counted take all places
@@ -202,9 +202,9 @@ room-own w job p a k rule sound small is-open has-key = room-by-job w job p a k 
 pub accepted-given : (w : World) (job : ℕ) (p : Procedure) (a : Address) (k : ℕ)
     → soundB w ≡ true → job ≤ 63 → isOpen (state w) job ≡ true → keyOf a ≡ some k
     → (operationCall w job p a .told .number ≡ 0)
-    ↔ ((heldBy (ruleOf (w .session .rule)) (state w .book) job p (addressCall a .key) ≡ none)
-    × (needsPlace (ruleOf (w .session .rule)) (state w .book .table) (begun job p (addressCall a .key) (usedTiles w)) ≡ true
-    → spokenFor (ruleOf (w .session .rule)) (state w .book) ≢ length (w .tiles))
+    ↔ ((heldBy (w .session .rule) (state w .book) job p (addressCall a .key) ≡ none)
+    × (needsPlace (w .session .rule) (state w .book .table) (begun job p (addressCall a .key) (usedTiles w)) ≡ true
+    → spokenFor (w .session .rule) (state w .book) ≢ length (w .tiles))
     × (w .session .operations < length (w .operations))
     × (10 + 4 * openMarks (w .session .marks) ≤ freeBytes w))
 accepted-given w job p a k sound small is-open has-key = accepted-told w job p a k sound small is-open has-key
@@ -279,21 +279,21 @@ module _ {r : Rule} {tiles : List ℕ} {count : ℕ} {operations journal : List 
   reached = arrived-reached there
 
   -- which is strict, and every choice of what fails as one leaves tiles that fit the table
-  pub stays-strict : Strict (ruleOf r) start-tiles (kept start-tiles (history cs))
-  stays-strict = admitted-strict (ruleOf r) start-tiles (history cs) (there .start-stands .ascending) (reached .admitted)
+  pub stays-strict : Strict r start-tiles (kept start-tiles (history cs))
+  stays-strict = admitted-strict r start-tiles (history cs) (there .start-stands .ascending) (reached .admitted)
 
-  pub stays-fitting : (d : ℕ → Bool) → length (run start-tiles (without (inGroups (ruleOf r) d) (kept start-tiles (history cs)))) ≤ length tiles
+  pub stays-fitting : (d : ℕ → Bool) → length (run start-tiles (without (inGroups r d) (kept start-tiles (history cs)))) ≤ length tiles
   stays-fitting d =
-      let a = room-is-enough (ruleOf r) start-tiles (history cs) (there .start-stands .ascending) (reached .admitted) d in
+      let a = room-is-enough r start-tiles (history cs) (there .start-stands .ascending) (reached .admitted) d in
       let b = there .is-sound-there .tables .room in
-      let c = ap₂ (λ q m. spokenFor (ruleOf q) m) (reached .by-rule) (reached .book-there) in
+      let c = ap₂ (λ q m. spokenFor q m) (reached .by-rule) (reached .book-there) in
       let e = there .same-places in
       omega arith
 
   -- every job has its mark, and the tables keep their lengths
   pub all-marks : length (w .session .marks) ≡ 64
   all-marks =
-      ap (λ (x : State). length (x .marks)) (there .holds-state)
+      ap (λ (x : State). length (x .marks)) (there .has-state)
       ∙ stands (length tiles) (length operations) r start-tiles (there .start-stands) (history cs) (there .taken) .all-jobs
 
   pub same-lengths : (length (w .tiles) ≡ length tiles) × (length (w .operations) ≡ length operations)
@@ -303,13 +303,13 @@ module _ {r : Rule} {tiles : List ℕ} {count : ℕ} {operations journal : List 
   pub answers : (c : Call) → call w c .told .number ≡ 0 → call w c .told ≡ done (answerOn (tilesAfter start-tiles (history cs)) (event c))
   answers c ok =
       told-done w c ok
-      ∙ ap (λ x. done (answerTo x (event c))) (there .holds-state)
+      ∙ ap (λ x. done (answerTo x (event c))) (there .has-state)
       ∙ ap done (answer-is _ _ r start-tiles (there .start-stands) (history cs) (there .taken) (event c))
 
   pub effects : (usedTiles w ≡ tilesAfter start-tiles (history cs)) × (map opIn (usedOperations w) ≡ unfinished (kept start-tiles (history cs)))
   effects = (
-    ap (λ (x : State). x .book .tiles) (there .holds-state) ∙ tiles-are _ _ r start-tiles (there .start-stands) (history cs) (there .taken),
-    ap (λ (x : State). x .book .table) (there .holds-state) ∙ table-is _ _ r start-tiles (there .start-stands) (history cs) (there .taken),
+    ap (λ (x : State). x .book .tiles) (there .has-state) ∙ tiles-are _ _ r start-tiles (there .start-stands) (history cs) (there .taken),
+    ap (λ (x : State). x .book .table) (there .has-state) ∙ table-is _ _ r start-tiles (there .start-stands) (history cs) (there .taken),
   )
 
   -- the used bytes, read record after record, are the calls with their answers and keys, and then the end
@@ -329,7 +329,7 @@ module _ {r : Rule} {tiles : List ℕ} {count : ℕ} {operations journal : List 
 
   -- where a job fails as one, the rule stands in front of them; else the first record does
   pub journal-ruled : take (length (ruleBytes r)) (usedJournal w) ≡ ruleBytes r
-  journal-ruled = ap (take (length (ruleBytes r))) (there .holds-journal) ∙ rule-first r start-tiles (history cs)
+  journal-ruled = ap (take (length (ruleBytes r))) (there .has-journal) ∙ rule-first r start-tiles (history cs)
 
 -- by the first rule
 module _ {tiles : List ℕ} {count : ℕ} {operations journal : List ℕ} {cs : Log Call} {w : World} (from : From Alone tiles count operations journal cs w) where
@@ -348,14 +348,14 @@ module _ {tiles : List ℕ} {count : ℕ} {operations journal : List ℕ} {cs : 
 
   -- an operation of an open job on an address with a key: held just where the history with it added would not be strict
   pub held-exact : (job : ℕ) (p : Procedure) (a : Address) (k : ℕ) → opened job (history cs) ≡ true → keyOf a ≡ some k
-      → (operationCall w job p a .told .number ≡ 6) ↔ (Strict alone first-tiles (with-it job p a) → ⊥)
+      → (operationCall w job p a .told .number ≡ 6) ↔ (Strict Alone first-tiles (with-it job p a) → ⊥)
   held-exact job p a k o e =
       held-just first-tiles (history cs) w (there-first .start-stands .ascending) reached-first (there-first .is-sound-there) job p a k o e
 
   -- and, where that is strict, refused for want of tile room just where some way of keeping or dropping the unfinished operations,
   -- it among them, needs more tiles than the table has
   pub room-exact : (job : ℕ) (p : Procedure) (a : Address) (k : ℕ) → opened job (history cs) ≡ true → keyOf a ≡ some k
-      → Strict alone first-tiles (with-it job p a)
+      → Strict Alone first-tiles (with-it job p a)
       → (operationCall w job p a .told .number ≡ 7)
       ↔ ((chosen : Log Op) × Choice (with-it job p a) chosen × (length tiles < length (run first-tiles chosen)))
   room-exact job p a k o e strict =
@@ -369,7 +369,7 @@ module _ {tiles : List ℕ} {count : ℕ} {operations journal : List ℕ} {cs : 
   -- accepted just where it stays strict, no such way needs more tiles than the table has, and there is an entry's place and the bytes
   pub accepted-exact : (job : ℕ) (p : Procedure) (a : Address) (k : ℕ) → opened job (history cs) ≡ true → keyOf a ≡ some k
       → (operationCall w job p a .told .number ≡ 0)
-      ↔ (Strict alone first-tiles (with-it job p a)
+      ↔ (Strict Alone first-tiles (with-it job p a)
       × ((chosen : Log Op) → Choice (with-it job p a) chosen → length (run first-tiles chosen) ≤ length tiles)
       × (w .session .operations < length (w .operations))
       × (10 + 4 * openMarks (w .session .marks) ≤ freeBytes w))
@@ -377,7 +377,7 @@ module _ {tiles : List ℕ} {count : ℕ} {operations journal : List ℕ} {cs : 
       subst
       (λ N.
       (operationCall w job p a .told .number ≡ 0)
-      ↔ (Strict alone first-tiles (with-it job p a)
+      ↔ (Strict Alone first-tiles (with-it job p a)
       × ((chosen : Log Op) → Choice (with-it job p a) chosen → length (run first-tiles chosen) ≤ N)
       × (w .session .operations < length (w .operations))
       × (10 + 4 * openMarks (w .session .marks) ≤ freeBytes w)))

@@ -64,7 +64,7 @@ fn span(a: i32, b: i32) -> usize
 fn corner_key(zoom: u8, column: i32, row: i32) -> Located
     ensures { λ r. ⌜ placed r ≡ addressCall (cornerAt zoom column row) ⌝ }
 {
-    tile::address(Address { zoom, column, row })
+    address::locate(Address { zoom, column, row })
 }
 
 // Judges width and height.

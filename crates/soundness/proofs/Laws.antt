@@ -8,20 +8,19 @@ use lib.Dec.{leb, leb·zero}
 use lib.ListN.{drop, getD, length, length-replicate, length-take, replicate, take}
 use lib.Seq.{length-take-le}
 use borrow.Author.Tests.{le-leb, leb-true}
-use Rattle.lists.specs.Lists.{all}
+use Rattle.lists.specs.Lists.{allTrue}
 use Rattle.lists.specs.Truth.{both}
 use Rattle.scans.specs.Tests.{allEntries, fails, sortedKeys}
-use Rattle.service.specs.Admission.{ruleOf}
 use Rattle.service.specs.Calls.{fresh, startWorld}
 use Rattle.service.specs.Entry.{opIn}
 use Rattle.service.specs.Laws.Soundness.{ascending-is, every-is, zeros-is}
 use Rattle.service.specs.Sound.{every, journalTests, settledB, soundB, tabledB, zeros}
 use Rattle.service.specs.Tile.{isKey}
 use Rattle.service.specs.World.{state, world}
-use Rattle.service.specs.declared.Rule.{Rule}
 use Rattle.service.specs.declared.Session.{Session}
 use Rattle.strict.specs.Book.{besides, spokenFor}
 use Rattle.strict.specs.Laws.Room.{nothing-besides}
+use Rattle.strict.specs.declared.Rule.{Rule}
 use Rattle.tiles.specs.Laws.{zeros-table}
 use Rattle.tiles.specs.Table.{TileTable}
 use Rattle.soundness.specs.Tests.{countTests}
@@ -36,7 +35,7 @@ module _ (s : Session) (t o : List ℕ) where
       ∷ allEntries (s .marks) (take (s .operations) o)
       ∷ zeros (drop (s .operations) o)
       ∷ settledB (s .rule) (take (s .tiles) t) (take (s .operations) o)
-      ∷ leb (spokenFor (ruleOf (s .rule)) (state (world s t o []) .book)) (length t)
+      ∷ leb (spokenFor (s .rule) (state (world s t o []) .book)) (length t)
       ∷ []
 
   tabled-parts : tabledB (world s t o []) ≡ every parts
@@ -67,13 +66,13 @@ module _ (s : Session) (t o : List ℕ) where
     pub tile-table : (sortedKeys (take (s .tiles) t) && zeros (drop (s .tiles) t)) ≡ true → TileTable t (s .tiles)
     tile-table e =
         let p = both (sortedKeys (take (s .tiles) t)) _ e in
-        zeros-table (s .tiles) t (counts .tiles-fit) (ascending-is (take (s .tiles) t) (both (all isKey (take (s .tiles) t)) _ (p .0) .1)) (zeros-is (drop (s .tiles) t) (p .1))
+        zeros-table (s .tiles) t (counts .tiles-fit) (ascending-is (take (s .tiles) t) (both (allTrue isKey (take (s .tiles) t)) _ (p .0) .1)) (zeros-is (drop (s .tiles) t) (p .1))
 
   -- where the others pass, the last test decides
   pub room-decides : every (countTests s t o) ≡ true → (sortedKeys (take (s .tiles) t) && zeros (drop (s .tiles) t)) ≡ true
       → allEntries (s .marks) (take (s .operations) o) ≡ true → zeros (drop (s .operations) o) ≡ true
       → settledB (s .rule) (take (s .tiles) t) (take (s .operations) o) ≡ true
-      → leb (s .tiles + besides (ruleOf (s .rule)) (take (s .tiles) t) (map opIn (take (s .operations) o))) (length t) ≡ tabledB (world s t o [])
+      → leb (s .tiles + besides (s .rule) (take (s .tiles) t) (map opIn (take (s .operations) o))) (length t) ≡ tabledB (world s t o [])
   room-decides counts tiles entries operations-rest settled =
       let used = length-take-le (s .tiles) t (counted counts .tiles-fit) in
       rw (tabled-parts, counts, tiles, entries, operations-rest, settled, used) (sym (and-true _))
@@ -98,8 +97,8 @@ module _ (r : Rule) (t : List ℕ) (count : ℕ) (o j : List ℕ) where
   counts-again = rw (length-replicate {A = ℕ} (length o) 0)
 
   -- nothing is spoken for besides
-  used-few : length (take count t) + besides (ruleOf r) (take count t) [] ≤ length t
-  used-few = rw (nothing-besides (ruleOf r) (take count t)) (simp length-take (omega arith))
+  used-few : length (take count t) + besides r (take count t) [] ≤ length t
+  used-few = rw (nothing-besides r (take count t)) (simp length-take (omega arith))
 
   start-parts : soundB (startWorld r t count o j) ≡ every starts
   unfolding soundB tabledB

@@ -4,10 +4,9 @@ ghost use mathlib.Core.Path.{_≡_};
 ghost use Rattle.service.specs.Calls.{fresh, startWorld};
 ghost use Rattle.service.specs.Sound.{every, soundB, tabledB};
 ghost use Rattle.service.specs.World.{world};
-ghost use Rattle.service.specs.declared.Rule.{Rule};
 ghost use Rattle.soundness.specs.Tests.{countTests};
-use service::Rule;
 use service::Session;
+use strict::Rule;
 
 // Whether the lengths and the counts are in their ranges.
 fn counts_fit(session: Session, tiles: &[u32], operations: &[u64]) -> bool

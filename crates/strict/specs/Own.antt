@@ -1,5 +1,5 @@
 -- Where a job fails as one: held though strict, a place spoken for that no outcome needs, and why the newest is undone first
-use mathlib.Core.Bool.{Bool, _||_, cond, true, false}
+use mathlib.Core.Bool.{Bool, _||_, cond, false, true}
 use mathlib.Core.List.{List, [], _∷_}
 use mathlib.Core.Option.{some}
 use mathlib.Core.Path.{_≡_, refl}
@@ -11,8 +11,9 @@ use Rattle.strict.specs.Book.{Book, bookAfter, heldBy, needsPlace, recov
 use Rattle.strict.specs.Histories.{Event, kept, openJob, operation}
 use Rattle.strict.specs.Laws.Ending.{oldestFirst}
 use Rattle.strict.specs.Operations.{Op, begun, undo}
-use Rattle.strict.specs.Strict.{Log, SameAnswers, Strict, _▷_, empty, inGroups, run, together, without}
+use Rattle.strict.specs.Strict.{Log, SameAnswers, Strict, _▷_, empty, inGroups, run, without}
 use Rattle.strict.specs.declared.Procedure.the-variants.{Del, Ins, Mem}
+use Rattle.strict.specs.declared.Rule.the-variants.{Together}
 
 -- two tiles, and a job that inserted A and deleted it again
 abbrev A : ℕ
@@ -35,9 +36,9 @@ left z a b =
     cond b two (two ▷ z)
 
 -- another job's mem of A is held, and yet strict: the converse of `admitted-strict` does not hold
-pub held-though-strict : (heldBy together there 2 Mem A ≡ some 1) × Strict together [] (kept [] (insertedDeleted ▷ operation 2 Mem A))
+pub held-though-strict : (heldBy Together there 2 Mem A ≡ some 1) × Strict Together [] (kept [] (insertedDeleted ▷ operation 2 Mem A))
 unfolding left
-held-though-strict = (refl, λ d. record { same-answers = answers (d 1) (d 2); undone = λ g e. same-tiles (d 1) (d 2) (eqb g 1) (eqb g 2) })
+held-though-strict = (refl, λ d. record { same-answers = answers (d 1) (d 2); taken-back = λ g e. same-tiles (d 1) (d 2) (eqb g 1) (eqb g 2) })
   where
     z : Op
     z = begun 2 Mem A []
@@ -70,8 +71,8 @@ held-though-strict = (refl, λ d. record { same-answers = answers (d 1) (d 2); u
     same-tiles false false false false = refl
 
 -- in one place, its insert of B is refused, though every choice of whole jobs leaves one tile at most
-pub spoken-for-though-free : (needsPlace together (there .table) (begun 2 Ins B []) ≡ true) × (spokenFor together there ≡ 1)
-    × ((d : ℕ → Bool) → length (run [] (without (inGroups together d) (kept [] (insertedDeleted ▷ operation 2 Ins B)))) ≤ 1)
+pub spoken-for-though-free : (needsPlace Together (there .table) (begun 2 Ins B []) ≡ true) × (spokenFor Together there ≡ 1)
+    × ((d : ℕ → Bool) → length (run [] (without (inGroups Together d) (kept [] (insertedDeleted ▷ operation 2 Ins B)))) ≤ 1)
 unfolding left
 spoken-for-though-free = (refl, refl, λ d. fits (d 1) (d 2))
   where

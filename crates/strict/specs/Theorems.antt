@@ -24,9 +24,11 @@ use Rattle.strict.specs.Laws.Sweeping.{Left, sweep-leaves}
 use Rattle.strict.specs.Laws.Table.{definition-2}
 use Rattle.strict.specs.Operations.{Op, Step, kind}
 use Rattle.strict.specs.Sound.{SoundTable}
-use Rattle.strict.specs.Strict.{Log, Rule, Strict, _▷_, alone, inGroups, run, together, without}
+use Rattle.strict.specs.Strict.{Log, Strict, _▷_, inGroups, run, without}
 use Rattle.strict.specs.Tiles.{Ascending}
 use Rattle.strict.specs.declared.Procedure.{Procedure}
+use Rattle.strict.specs.declared.Rule.{Rule}
+use Rattle.strict.specs.declared.Rule.the-variants.{Alone, Together}
 
 -- the six by five table is Definition 2 of the report, at each of its thirty entries
 pub table-exact : (p : Procedure) (found : Bool) (k : ℕ) (r : Step) (i : ℕ) → (commutes (kind p found) r (eqb k i) ≡ true) ↔ Commutes p found k r i
@@ -37,11 +39,11 @@ pub first-holder : (r : Rule) (o : Op) (us : List Op) (job : ℕ) → (holder r 
 first-holder r o us job = holder-first r o us job
 
 -- strict by places is strict by lists, as the report's Definition 1 words it
-pub strict-by-lists : (s : List ℕ) (os : Log Op) → Strict alone s os ↔ StrictLists s os
+pub strict-by-lists : (s : List ℕ) (os : Log Op) → Strict Alone s os ↔ StrictLists s os
 strict-by-lists s os = (to-lists s os, to-places s os)
 
 -- where each operation fails alone, the recoveries of a job on a sound table may run in any order
-pub either-order : (j : ℕ) (t : List ℕ) (us : List Op) → Ascending t → SoundTable alone t us → oldestFirst j us t ≡ recover j us t
+pub either-order : (j : ℕ) (t : List ℕ) (us : List Op) → Ascending t → SoundTable Alone t us → oldestFirst j us t ≡ recover j us t
 either-order j t us asc sound = recover-either-way j t us t asc sound
 
 -- on every sound table, however it came about, what the rule admits leaves a sound table
@@ -54,7 +56,7 @@ pub counted-once : (t : List ℕ) (us : List Op) → CountedTiles t us
 counted-once t us = counted-tiles t us
 
 -- what is admitted where each operation fails alone is admitted where a job fails as one
-pub either-admits : (s : List ℕ) (h : Log Event) → Admitted alone s h → Admitted together s h
+pub either-admits : (s : List ℕ) (h : Log Event) → Admitted Alone s h → Admitted Together s h
 either-admits s h admitted = wider s h admitted
 
 module _ (r : Rule) (s : List ℕ) (h : Log Event) (ascending : Ascending s) (admitted : Admitted r s h) where
@@ -86,12 +88,12 @@ module _ (r : Rule) (s : List ℕ) (h : Log Event) (ascending : Ascending s) (ad
   pub choices-fit : (N : ℕ) → Roomy r N s h → (d : ℕ → Bool) → length (run s (without (inGroups r d) (kept s h))) ≤ N
   choices-fit N roomy d = le-trans (room-is-enough d) (roomy-fits r N s h ascending admitted roomy)
 
-module _ (s : List ℕ) (h : Log Event) (ascending : Ascending s) (admitted : Admitted alone s h) where
+module _ (s : List ℕ) (h : Log Event) (ascending : Ascending s) (admitted : Admitted Alone s h) where
   -- an operation of an open job is not held just where the history with it is strict
   pub held-is-exact : (j : ℕ) (p : Procedure) (k : ℕ) → opened j h ≡ true
-      → (heldBy alone (bookAfter s h) j p k ≡ none) ↔ Strict alone s (kept s (h ▷ operation j p k))
+      → (heldBy Alone (bookAfter s h) j p k ≡ none) ↔ Strict Alone s (kept s (h ▷ operation j p k))
   held-is-exact j p k is-open = held-exactly s h j p k ascending admitted is-open
 
   -- some choice of the kept operations leaves more than N tiles just where more than N places are spoken for
-  pub room-is-exact : (N : ℕ) → ((chosen : Log Op) × Choice (kept s h) chosen × (N < length (run s chosen))) ↔ (N < spokenFor alone (bookAfter s h))
+  pub room-is-exact : (N : ℕ) → ((chosen : Log Op) × Choice (kept s h) chosen × (N < length (run s chosen))) ↔ (N < spokenFor Alone (bookAfter s h))
   room-is-exact N = room-exactly s h ascending admitted N

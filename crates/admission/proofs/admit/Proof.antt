@@ -13,14 +13,13 @@ use Rattle.entries.specs.Laws.{jobAt, place-inside}
 use Rattle.entries.specs.Table.{firstPlace}
 use Rattle.rules.specs.Laws.{held-place, place-wanted}
 use Rattle.rules.specs.Rules.{holdsBy}
-use Rattle.service.specs.Admission.{ruleOf}
 use Rattle.service.specs.Entry.{jobIn, opIn}
 use Rattle.service.specs.Laws.Entries.{kind-range}
 use Rattle.service.specs.World.{World, state, usedOperations, usedTiles, world}
 use Rattle.strict.specs.Operations.{kind}
 use Rattle.admission.proofs.admit.Statement.{statement}
 use Rattle.admission.proofs.admit.Tie as tie
-use Rattle.admission.specs.Laws.{admitted, held, holding, lacksPlace, no-place, no-slot, operations-count, tile-table}
+use Rattle.admission.specs.Laws.{admitted, held, lacksPlace, no-place, no-slot, operations-count, theHolder, tile-table}
 
 -- what the function was given
 abbrev given : tie.After-first-holder → World
@@ -28,7 +27,7 @@ given c = let a = c .before .before .before .before .before .args in world (a .s
 
 held-by : (c : tie.After-first-holder)
     → let a = c .before .before .before .before .before .args in
-    holding (length (now (a .tiles))) (length (now (a .operations))) (state (given c)) (a .job) (a .procedure) (a .key) ≡ jobAt (usedOperations (given c)) (c .first-holder .result)
+    theHolder (length (now (a .tiles))) (length (now (a .operations))) (state (given c)) (a .job) (a .procedure) (a .key) ≡ jobAt (usedOperations (given c)) (c .first-holder .result)
 held-by c =
     let a = c .before .before .before .before .before .args in
     let of-kind = ap (λ n. firstPlace (holdsBy (a .session .rule) (a .job) n (a .key)) (usedOperations (given c))) (c .before .kind .ensures ∙ ap (kind (a .procedure)) (c .before .before .is-present .ensures)) in
@@ -46,7 +45,7 @@ place-there c =
 free : (c : tie.After-enum-told)
     → let f = c .before .before in
     let a = f .before .before .before .before .before .args in
-    holding (length (now (a .tiles))) (length (now (a .operations))) (state (given f)) (a .job) (a .procedure) (a .key) ≡ none
+    theHolder (length (now (a .tiles))) (length (now (a .operations))) (state (given f)) (a .job) (a .procedure) (a .key) ≡ none
 free c = let f = c .before .before in held-by f ∙ ap (jobAt (usedOperations (given f))) (c .enum-told .given .1)
 
 lacks : (c : tie.After-lacks-place)
@@ -57,7 +56,7 @@ lacks c =
     let f = c .before .before .before in
     let w = given f in
     let a = c .before .before .before .before .before .before .before .before .args in
-    rw (place-wanted (a .job) (a .procedure) (a .key) (usedTiles w) (ruleOf (w .session .rule)) (state w .book .table), c .lacks-place .ensures, f .before .kind .ensures, f .before .before .is-present .ensures)
+    rw (place-wanted (a .job) (a .procedure) (a .key) (usedTiles w) (w .session .rule) (state w .book .table), c .lacks-place .ensures, f .before .kind .ensures, f .before .before .is-present .ensures)
 
 slots : (c : tie.After-lacks-place) → let w = given (c .before .before .before) in length (map opIn (usedOperations w)) ≡ w .session .operations
 slots c = let f = c .before .before .before in operations-count (given f) (f .before .before .before .before .before .pre)

@@ -13,7 +13,6 @@ use Rattle.entries.specs.Laws.{three-few}
 use Rattle.lists.specs.Truth.{test-fails, test-passes}
 use Rattle.rules.specs.Laws.{other-kind}
 use Rattle.rules.specs.Rules.{wantsPlace}
-use Rattle.service.specs.Admission.{ruleOf}
 use Rattle.service.specs.World.{World, state, world}
 use Rattle.strict.specs.Book.{spokenFor}
 use Rattle.admission.proofs.lacks_place.Statement.{statement}
@@ -27,21 +26,21 @@ given c = world (c .args .session) (now (c .args .tiles)) (now (c .args .operati
 -- one of the two tests fails
 module _ (w : World) (n key : ℕ) where
   abbrev wants : Bool
-  wants = wantsPlace (ruleOf (w .session .rule)) (state w .book .table) n key
+  wants = wantsPlace (w .session .rule) (state w .book .table) n key
 
   abbrev full : Bool
-  full = eqb (spokenFor (ruleOf (w .session .rule)) (state w .book)) (length (w .tiles))
+  full = eqb (spokenFor (w .session .rule) (state w .book)) (length (w .tiles))
 
   not-wanted : false ≡ wants → false ≡ (wants && full)
   not-wanted e = ap (λ b. b && full) e
 
-  not-full : (spokenFor (ruleOf (w .session .rule)) (state w .book) ≡ length (w .tiles) → ⊥) → false ≡ (wants && full)
+  not-full : (spokenFor (w .session .rule) (state w .book) ≡ length (w .tiles) → ⊥) → false ≡ (wants && full)
   not-full h = sym (ap (λ b. wants && b) (ne-eqb _ _ h) ∙ and-false wants)
 
 returns : tie.Need-returns
 returns c =
     let s = c .before .before .before in
-    not-wanted (given s) (s .args .kind) (s .args .key) (other-kind (ruleOf (s .args .session .rule)) (state (given s) .book .table) (s .args .kind) (s .args .key) (c .if1 .taken))
+    not-wanted (given s) (s .args .kind) (s .args .key) (other-kind (s .args .session .rule) (state (given s) .book .table) (s .args .kind) (s .args .key) (c .if1 .taken))
 
 count-reserved-requires : tie.Need-count-reserved-requires
 count-reserved-requires c κs = search needs

@@ -9,8 +9,8 @@ use lib.Seq.{slice}
 use borrow.Author.Needs.{needs}
 use denote.Ref.{now}
 use Rattle.lists.specs.Truth.{test-fails, test-passes}
+use Rattle.strict.specs.declared.Rule.the-variants.{Together}
 use Rattle.service.specs.Entry.{keyIn}
-use Rattle.service.specs.declared.Rule.the-variants.{Together}
 use Rattle.scans.specs.Laws.{unchanged-settled}
 use Rattle.chains.specs.Chains.{followed}
 use Rattle.chains.proofs.Near.{same-from}

@@ -9,9 +9,9 @@ use borrow.Author.Needs.{needs}
 use denote.Ref.{now}
 use Rattle.lists.specs.Lists.{slice-end}
 use Rattle.lists.specs.Truth.{test-fails, test-passes}
+use Rattle.strict.specs.declared.Rule.the-variants.{Together}
 use Rattle.service.specs.Entry.{keyIn}
 use Rattle.service.specs.Sound.{settledB}
-use Rattle.service.specs.declared.Rule.the-variants.{Together}
 use Rattle.scans.specs.Laws.{not-settled, settled-back}
 use Rattle.chains.specs.Chains.{nearSlot}
 use Rattle.chains.proofs.Near.{Nearest, Reaches, near-recorded, near-start}

@@ -31,8 +31,8 @@ returns c =
     let s = c .before .before .before .before .before .before in
     decides-gate (given s) (s .args .job) (s .args .procedure) (s .args .address) (c .before .before .end-reply .result) (c .before .before .end-reply .ensures) (test-fails (c .before .accepted .ensures) (c .if1 .taken))
 
-address-requires : tie.Need-address-requires
-address-requires c κs = search needs
+locate-requires : tie.Need-locate-requires
+locate-requires c κs = search needs
 
 enum-told : tie.Need-enum-told
 enum-told c = search needs
@@ -40,8 +40,8 @@ enum-told c = search needs
 enum-known-key : tie.Need-enum-known-key
 enum-known-key c = search needs
 
-judge-requires : tie.Need-judge-requires
-judge-requires c κs =
+judge-keyed-requires : tie.Need-judge-keyed-requires
+judge-keyed-requires c κs =
     let e = c .before .before .before .before in
     let s = e .before .before .before .before .before .before in
     let gate = e .before .before .end-reply in
@@ -53,7 +53,7 @@ returns-2 c =
     let s = e .before .before .before .before .before .before in
     let gate = e .before .before .end-reply in
     decides-no-key (given s) (s .args .job) (s .args .procedure) (s .args .address) (gate .result) (gate .ensures) (zero e)
-    (ap placed (sym (c .enum-told .given .1)) ∙ c .before .before .address .ensures)
+    (ap placed (sym (c .enum-told .given .1)) ∙ c .before .before .locate .ensures)
 
 returns-3 : tie.Need-returns-3
 returns-3 c =
@@ -61,8 +61,8 @@ returns-3 c =
     let e = key .before .before .before in
     let s = e .before .before .before .before .before .before in
     let gate = e .before .before .end-reply in
-    decides-judged (given s) (s .args .job) (s .args .procedure) (s .args .address) (gate .result) (gate .ensures) (zero e) _ (c .judge .result)
-    (ap placed (sym (key .key .given .1)) ∙ key .before .before .address .ensures) (c .judge .ensures)
+    decides-judged (given s) (s .args .job) (s .args .procedure) (s .args .address) (gate .result) (gate .ensures) (zero e) _ (c .judge-keyed .result)
+    (ap placed (sym (key .key .given .1)) ∙ key .before .before .locate .ensures) (c .judge-keyed .ensures)
 
 pub operation-decision-spec : {M : Type 1} → statement M
 operation-decision-spec =
@@ -71,9 +71,9 @@ operation-decision-spec =
     end-reply-requires
     accepted-requires
     returns
-    address-requires
+    locate-requires
     enum-told
     enum-known-key
-    judge-requires
+    judge-keyed-requires
     returns-2
     returns-3)

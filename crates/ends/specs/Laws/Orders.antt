@@ -15,16 +15,17 @@ use Rattle.strict.specs.Laws.Ending.{recover-ascending}
 use Rattle.strict.specs.Laws.Undoing.{apply-comm}
 use Rattle.strict.specs.Operations.{Op, Step, apply, clear, inverse, put, skip, undo}
 use Rattle.strict.specs.Sound.{FreeAfter, MayFollow, SoundTable}
-use Rattle.strict.specs.Strict.{Rule, alone, together}
 use Rattle.strict.specs.Tiles.{Ascending}
+use Rattle.strict.specs.declared.Rule.{Rule}
+use Rattle.strict.specs.declared.Rule.the-variants.{Alone, Together}
 use Rattle.service.specs.Admission.{State, perform}
 use Rattle.service.specs.History.{event}
 use Rattle.ends.specs.Ends.{EitherFirst, End, cancels, careful, endedBy, ending, keeps, whose}
 
 -- what may follow u and is of another job is on another tile
 other-tile : (r : Rule) (u v : Op) → MayFollow r u v → u .job ≢ v .job → u .key ≢ v .key
-other-tile alone u v f d = f
-other-tile together u v f d = λ p. d (f p)
+other-tile Alone u v f d = f
+other-tile Together u v f d = λ p. d (f p)
 
 -- an entry is of one job
 its-job : (j : ℕ) (u : Op) → mine j u ≡ true → j ≡ u .job

@@ -9,7 +9,7 @@ use lib.ListN.{drop, getD, length, length-append, length-map, take}
 use lib.Seq.{getD-set-other, length-take-le, sets-eq}
 use Rattle.lists.specs.Lists.{All, sets-sets}
 use Rattle.strict.specs.Histories.{abort, commit}
-use Rattle.service.specs.Admission.{State, isOpen, ruleOf}
+use Rattle.service.specs.Admission.{State, isOpen}
 use Rattle.service.specs.Calls.{carried, padded, stored}
 use Rattle.service.specs.Claims.{Keeps}
 use Rattle.service.specs.Demands.{accepted-keeps, ends-accepted}
@@ -63,7 +63,7 @@ group-same s (then r q) g = group-same s q (group-same s r g)
 pub states-same : (places slots : ℕ) (s : State) {es fs : List End} → Reordered es fs → Stands places slots s → Group s es → allEnded s es ≡ allEnded s fs
 states-same places slots s nothing h g = refl
 states-same places slots s (first e {es} r) h g = states-same places slots (ends s e) r (ends-stand places slots s e (g .0) h) (group-on s e es (g .1) (g .2))
-states-same places slots s (swapped e f es) h g = ap (λ x. allEnded x es) (state-either-first (ruleOf (s .rule)) s (h .ascending) (h .table) e f (g .1 .0))
+states-same places slots s (swapped e f es) h g = ap (λ x. allEnded x es) (state-either-first (s .rule) s (h .ascending) (h .table) e f (g .1 .0))
 states-same places slots s (then r q) h g = states-same places slots s r h g ∙ states-same places slots s q h (group-same s r g)
 
 -- THE WORLD

@@ -36,9 +36,9 @@ same-length-2 c = search needs
 returns : tie.Need-returns
 returns c =
     let s = c .before .before .before .before .before .before .before .before .before .before .before in
-    let undone = c .before .before .before .before .before .before .undo .ensures in
+    let recoveredJob = c .before .before .before .before .before .before .undo .ensures in
     rw (c .before .before .close-job .ensures .0)
-    (aborted (given s) (full s) (s .args .job) (s .pre) _ _ _ _ (undone .0) (undone .1) refl (c .before .before .close-job .ensures .1))
+    (aborted (given s) (full s) (s .args .job) (s .pre) _ _ _ _ (recoveredJob .0) (recoveredJob .1) refl (c .before .before .close-job .ensures .1))
 
 pub abort-job-spec : {M : Type 1} → statement M
 abort-job-spec =

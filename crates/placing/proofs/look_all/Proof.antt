@@ -8,7 +8,6 @@ use lib.Seq.{slice}
 use borrow.Author.Needs.{needs}
 use denote.Ref.{now}
 use Rattle.lists.specs.Truth.{oneIf}
-use Rattle.service.specs.Admission.{ruleOf}
 use Rattle.service.specs.World.{state, world}
 use Rattle.placing.proofs.look_all.Statement.{statement}
 use Rattle.placing.proofs.look_all.Tie as tie
@@ -16,7 +15,7 @@ use Rattle.placing.specs.Laws.Looking.{Left, left-held, left-more, left-
 
 abbrev Inv-loop : tie.InvT-loop
 Inv-loop session tiles operations filter job procedure keys n need₀ i₀ need i =
-    (i ≤ n) × (need ≤ i) × Left (ruleOf (session .rule)) (state (world session tiles operations []) .book) job procedure (take n keys) need (slice i n keys)
+    (i ≤ n) × (need ≤ i) × Left (session .rule) (state (world session tiles operations []) .book) job procedure (take n keys) need (slice i n keys)
 
 abbrev μ-loop : tie.MeasureT-loop
 μ-loop session tiles operations filter job procedure keys n need₀ i₀ need i = n - i

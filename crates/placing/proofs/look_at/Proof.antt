@@ -11,7 +11,6 @@ use Rattle.entries.specs.Laws.{jobAt, place-inside}
 use Rattle.entries.specs.Table.{firstPlace}
 use Rattle.rules.specs.Laws.{held-place, place-wanted}
 use Rattle.rules.specs.Rules.{holdsBy, wantsPlace}
-use Rattle.service.specs.Admission.{ruleOf}
 use Rattle.service.specs.Entry.{jobIn}
 use Rattle.service.specs.Laws.Entries.{kind-range}
 use Rattle.service.specs.World.{World, state, usedOperations, usedTiles, world}
@@ -28,7 +27,7 @@ given c = let a = c .before .before .before .before .before .args in world (a .s
 
 held-by : (c : tie.After-first-holder)
     → let a = c .before .before .before .before .before .args in
-    heldBy (ruleOf (a .session .rule)) (state (given c) .book) (a .job) (a .procedure) (a .key) ≡ jobAt (usedOperations (given c)) (c .first-holder .result)
+    heldBy (a .session .rule) (state (given c) .book) (a .job) (a .procedure) (a .key) ≡ jobAt (usedOperations (given c)) (c .first-holder .result)
 held-by c =
     let a = c .before .before .before .before .before .args in
     let of-kind = ap (λ n. firstPlace (holdsBy (a .session .rule) (a .job) n (a .key)) (usedOperations (given c))) (c .before .kind .ensures ∙ ap (kind (a .procedure)) (c .before .before .is-present .ensures)) in
@@ -46,7 +45,7 @@ place-there c =
 nobody : (c : tie.After-enum-told)
     → let f = c .before .before in
     let a = f .before .before .before .before .before .args in
-    heldBy (ruleOf (a .session .rule)) (state (given f) .book) (a .job) (a .procedure) (a .key) ≡ none
+    heldBy (a .session .rule) (state (given f) .book) (a .job) (a .procedure) (a .key) ≡ none
 nobody c = let f = c .before .before in held-by f ∙ ap (jobAt (usedOperations (given f))) (c .enum-told .given .1)
 
 is-present-requires : tie.Need-is-present-requires
@@ -93,8 +92,8 @@ returns-2 c =
     let a = f .before .before .before .before .before .args in
     let of-kind = f .before .kind .ensures ∙ ap (kind (a .procedure)) (f .before .before .is-present .ensures) in
     free _ _ (a .job) (a .procedure) (a .key) _ (nobody (c .before))
-    (place-wanted (a .job) (a .procedure) (a .key) (usedTiles (given f)) (ruleOf (a .session .rule)) (state (given f) .book .table)
-    ∙ ap (λ n. wantsPlace (ruleOf (a .session .rule)) (state (given f) .book .table) n (a .key)) (sym of-kind)
+    (place-wanted (a .job) (a .procedure) (a .key) (usedTiles (given f)) (a .session .rule) (state (given f) .book .table)
+    ∙ ap (λ n. wantsPlace (a .session .rule) (state (given f) .book .table) n (a .key)) (sym of-kind)
     ∙ sym (c .needs-place .ensures))
 
 pub look-at-spec : {M : Type 1} → statement M

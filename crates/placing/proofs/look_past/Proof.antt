@@ -5,7 +5,6 @@ use lib.Dec.{eqb}
 use borrow.Author.Needs.{needs}
 use denote.Ref.{now}
 use Rattle.admission.specs.Laws.{tile-table}
-use Rattle.service.specs.Admission.{ruleOf}
 use Rattle.service.specs.World.{World, usedOperations, usedTiles, world}
 use Rattle.strict.specs.Operations.{kind}
 use Rattle.placing.proofs.look_past.Statement.{statement}
@@ -36,7 +35,7 @@ returns-2 c =
     let s = e .before .before .before in
     let of-kind = c .kind .ensures ∙ ap (kind (s .args .procedure)) (c .before .is-present .ensures) in
     ap {B = Seen} (λ n. look.Free (eqb n 1)) of-kind
-    ∙ apart-free (ruleOf (s .args .session .rule)) (usedTiles (given s)) (usedOperations (given s)) (s .args .job) (s .args .procedure) (s .args .key) (s .pre .1 (e .if1 .left))
+    ∙ apart-free (s .args .session .rule) (usedTiles (given s)) (usedOperations (given s)) (s .args .job) (s .args .procedure) (s .args .key) (s .pre .1 (e .if1 .left))
 
 pub look-past-spec : {M : Type 1} → statement M
 look-past-spec =

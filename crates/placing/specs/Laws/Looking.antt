@@ -16,9 +16,10 @@ use Rattle.service.specs.Entry.{keyIn, opIn}
 use Rattle.strict.specs.Book.{Book, deleted, heldBy, needsPlace}
 use Rattle.strict.specs.Commutativity.{holder}
 use Rattle.strict.specs.Operations.{Op, begun, kind}
-use Rattle.strict.specs.Strict.{Rule, alone, together}
 use Rattle.strict.specs.Tiles.{member}
 use Rattle.strict.specs.declared.Procedure.{Procedure}
+use Rattle.strict.specs.declared.Rule.{Rule}
+use Rattle.strict.specs.declared.Rule.the-variants.{Alone, Together}
 use Rattle.rectangles.specs.Laws.Apart.{holds-not}
 use Rattle.rectangles.specs.Rectangles.{firstHeld, firstOf, needed}
 use Rattle.placing.specs.Passes.{listBy, listOf, lookBy, lookOf}
@@ -67,8 +68,8 @@ none-deleted k (e ∷ es) h =
     both-false (ap (λ b. three && b) (not-true (eqb k (keyIn e)) (two .0)) ∙ and-false three) (none-deleted k es (two .1))
 
 place-there : (b : Rule) (us : List Op) (o : Op) → deleted (o .key) us ≡ false → needsPlace b us o ≡ eqb (kind (o .proc) (o .found)) 1
-place-there alone us o h = refl
-place-there together us o h = rw h (and-true _)
+place-there Alone us o h = refl
+place-there Together us o h = rw h (and-true _)
 
 pub apart-free : (b : Rule) (t es : List ℕ) (job : ℕ) (p : Procedure) (k : ℕ) → elsewhere k es ≡ true
     → look.Free (eqb (kind p (member k t)) 1) ≡ lookOf b (record { tiles = t; table = map opIn es }) job p k

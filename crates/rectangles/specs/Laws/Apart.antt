@@ -17,20 +17,21 @@ use Rattle.strict.specs.Laws.Holding.{rows}
 use Rattle.strict.specs.Laws.Members.{member-apply, touch}
 use Rattle.strict.specs.Laws.Undoing.{touch-off}
 use Rattle.strict.specs.Operations.{Op, Step, begun, clear, effect, inverse, kind, put, skip}
-use Rattle.strict.specs.Strict.{Rule, alone, together}
 use Rattle.strict.specs.Tiles.{member}
 use Rattle.strict.specs.declared.Procedure.{Procedure}
+use Rattle.strict.specs.declared.Rule.{Rule}
+use Rattle.strict.specs.declared.Rule.the-variants.{Alone, Together}
 use Rattle.rectangles.specs.Rectangles.{firstHeld, firstOf, needed}
 
 -- an entry on another tile holds nothing
 pub holds-not : (r : Rule) (o u : Op) → o .key ≢ u .key → holds r o u ≡ false
-holds-not alone o u d = ap (λ b. not (commutes (kind (o .proc) (o .found)) (inverse u) b)) (ne-eqb (o .key) (u .key) d) ∙ ap not (go (inverse u))
+holds-not Alone o u d = ap (λ b. not (commutes (kind (o .proc) (o .found)) (inverse u) b)) (ne-eqb (o .key) (u .key) d) ∙ ap not (go (inverse u))
   where
     go : (s : Step) → commutes (kind (o .proc) (o .found)) s false ≡ true
     go put = rows (o .proc) (o .found) .put-other
     go clear = rows (o .proc) (o .found) .clear-other
     go skip = rows (o .proc) (o .found) .skips false
-holds-not together o u d =
+holds-not Together o u d =
     ap (λ b. not (eqb (u .job) (o .job)) && (changes (inverse u) && b)) (ne-eqb (o .key) (u .key) d)
     ∙ ap (λ b. not (eqb (u .job) (o .job)) && b) (and-false (changes (inverse u)))
     ∙ and-false (not (eqb (u .job) (o .job)))
@@ -41,8 +42,8 @@ holder-before r o u (x ∷ us) e = rw (holder-before r o u us e)
 
 -- and is no reason to count a tile, nor not to
 needs-before : (r : Rule) (o u : Op) (us : List Op) → o .key ≢ u .key → needsPlace r (us ++ (u ∷ [])) o ≡ needsPlace r us o
-needs-before alone o u us d = refl
-needs-before together o u us d =
+needs-before Alone o u us d = refl
+needs-before Together o u us d =
     let three = eqb (kind (u .proc) (u .found)) 3 in
     ap (λ b. eqb (kind (o .proc) (o .found)) 1 && not b)
     (deleted-last (o .key) us u

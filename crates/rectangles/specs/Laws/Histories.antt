@@ -17,10 +17,11 @@ use Rattle.strict.specs.Laws.Holding.{back-beyond}
 use Rattle.strict.specs.Laws.Members.{ascending-apply}
 use Rattle.strict.specs.Laws.Room.{room-operation}
 use Rattle.strict.specs.Operations.{Op, begun, effect}
-use Rattle.strict.specs.Strict.{Log, SameAnswers, Strict, _▷_, alone, back, inGroups, run, size, without}
+use Rattle.strict.specs.Strict.{Log, SameAnswers, Strict, _▷_, back, inGroups, run, size, without}
 use Rattle.strict.specs.Theorems.{held-is-exact}
 use Rattle.strict.specs.Tiles.{Ascending}
 use Rattle.strict.specs.declared.Procedure.{Procedure}
+use Rattle.strict.specs.declared.Rule.the-variants.{Alone}
 use Rattle.rectangles.specs.Claims.{Apart}
 use Rattle.rectangles.specs.Laws.Apart.{free-before, free-then, needed-same}
 use Rattle.rectangles.specs.Rectangles.{needed}
@@ -31,7 +32,7 @@ withAll h job p [] = h
 withAll h job p (k ∷ ks) = withAll (h ▷ operation job p k) job p ks
 
 -- what stands before an unfinished operation is strict where all is: drop that one, whatever else is dropped
-module _ (s : List ℕ) (os : Log Op) (o : Op) (new : o .done ≡ false) (strict : Strict alone s (os ▷ o)) where
+module _ (s : List ℕ) (os : Log Op) (o : Op) (new : o .done ≡ false) (strict : Strict Alone s (os ▷ o)) where
   module _ (d : ℕ → Bool) where
     abbrev wider : ℕ → Bool
     wider i = cond (ltb i (size os)) (d i) true
@@ -42,67 +43,67 @@ module _ (s : List ℕ) (os : Log Op) (o : Op) (new : o .done ≡ false) (strict
     below : (i : ℕ) → i < size os → wider i ≡ d i
     below i l = ap (λ b. cond b (d i) true) (lt-ltb i (size os) l)
 
-    rest-is : without (inGroups alone wider) (os ▷ o) ≡ without (inGroups alone d) os
+    rest-is : without (inGroups Alone wider) (os ▷ o) ≡ without (inGroups Alone d) os
     rest-is = last-goes os o wider new goes ∙ without-beyond wider d os below
 
     abbrev also : ℕ → ℕ → Bool
     also g i = eqb g i || wider i
 
-    also-is : (g : ℕ) → without (inGroups alone (also g)) (os ▷ o) ≡ without (inGroups alone (λ i. eqb g i || d i)) os
+    also-is : (g : ℕ) → without (inGroups Alone (also g)) (os ▷ o) ≡ without (inGroups Alone (λ i. eqb g i || d i)) os
     also-is g =
         last-goes os o (also g) new (ap (λ b. eqb g (size os) || b) goes ∙ or-true (eqb g (size os)))
         ∙ without-beyond (also g) (λ i. eqb g i || d i) os (λ i l. ap (λ b. eqb g i || b) (below i l))
 
     undone-before : (g : ℕ) → d g ≡ false → (b : Bool) → ltb g (size os) ≡ b
-        → back (inGroups alone (eqb g)) os (run s (without (inGroups alone d) os)) ≡ run s (without (inGroups alone (λ i. eqb g i || d i)) os)
+        → back (inGroups Alone (eqb g)) os (run s (without (inGroups Alone d) os)) ≡ run s (without (inGroups Alone (λ i. eqb g i || d i)) os)
     undone-before g e true q =
         let l = ltb-true g (size os) q in
-        sym (back-past os o (eqb g) (run s (without (inGroups alone d) os)) (ne-eqb g (size os) (omega arith)))
-        ∙ ap (λ l. back (inGroups alone (eqb g)) (os ▷ o) (run s l)) (sym rest-is)
-        ∙ strict wider .undone g (below g l ∙ e)
+        sym (back-past os o (eqb g) (run s (without (inGroups Alone d) os)) (ne-eqb g (size os) (omega arith)))
+        ∙ ap (λ l. back (inGroups Alone (eqb g)) (os ▷ o) (run s l)) (sym rest-is)
+        ∙ strict wider .taken-back g (below g l ∙ e)
         ∙ ap (run s) (also-is g)
     undone-before g e false q =
         let l = ltb-false g (size os) q in
-        back-beyond (eqb g) os (run s (without (inGroups alone d) os)) (λ i u. ne-eqb g i (omega arith))
+        back-beyond (eqb g) os (run s (without (inGroups Alone d) os)) (λ i u. ne-eqb g i (omega arith))
         ∙ ap (run s) (without-beyond d (λ i. eqb g i || d i) os (λ i u. sym (ap (λ b. b || d i) (ne-eqb g i (omega arith)))))
 
-  pub strict-before : Strict alone s os
+  pub strict-before : Strict Alone s os
   strict-before d =
       record {
         same-answers = subst (SameAnswers s) (rest-is d) (strict (wider d) .same-answers);
-        undone = λ g e. undone-before d g e (ltb g (size os)) refl;
+        taken-back = λ g e. undone-before d g e (ltb g (size os)) refl;
       }
 
 module _ (s : List ℕ) (job : ℕ) (p : Procedure) where
-  strict-first : (h : Log Event) (ks : List ℕ) → Strict alone s (kept s (withAll h job p ks)) → Strict alone s (kept s h)
+  strict-first : (h : Log Event) (ks : List ℕ) → Strict Alone s (kept s (withAll h job p ks)) → Strict Alone s (kept s h)
   strict-first h [] strict = strict
   strict-first h (k ∷ ks) strict = strict-before s (kept s h) (begun job p k (run s (kept s h))) refl (strict-first (h ▷ operation job p k) ks strict)
 
   module _ (asc : Ascending s) where
     -- none is held: then all are admitted one after another
-    pub all-admitted : (h : Log Event) (ks : List ℕ) → Admitted alone s h → opened job h ≡ true → Apart ks
-        → All (λ k. heldBy alone (bookAfter s h) job p k ≡ none) ks → Admitted alone s (withAll h job p ks)
+    pub all-admitted : (h : Log Event) (ks : List ℕ) → Admitted Alone s h → opened job h ≡ true → Apart ks
+        → All (λ k. heldBy Alone (bookAfter s h) job p k ≡ none) ks → Admitted Alone s (withAll h job p ks)
     all-admitted h [] a o apart free = a
     all-admitted h (k ∷ ks) a o apart free =
-        all-admitted (h ▷ operation job p k) ks (a, o, free .0) o (apart .1) (free-then alone (bookAfter s h) job p k ks (apart .0) (free .1))
+        all-admitted (h ▷ operation job p k) ks (a, o, free .0) o (apart .1) (free-then Alone (bookAfter s h) job p k ks (apart .0) (free .1))
 
-    all-unheld : (h : Log Event) (ks : List ℕ) → Admitted alone s h → opened job h ≡ true → Apart ks
-        → Strict alone s (kept s (withAll h job p ks)) → All (λ k. heldBy alone (bookAfter s h) job p k ≡ none) ks
+    all-unheld : (h : Log Event) (ks : List ℕ) → Admitted Alone s h → opened job h ≡ true → Apart ks
+        → Strict Alone s (kept s (withAll h job p ks)) → All (λ k. heldBy Alone (bookAfter s h) job p k ≡ none) ks
     all-unheld h [] a o apart strict = tt
     all-unheld h (k ∷ ks) a o apart strict =
         let free = held-is-exact s h asc a job p k o .1 (strict-first (h ▷ operation job p k) ks strict) in
-        (free, free-before alone (bookAfter s h) job p k ks (apart .0) (all-unheld (h ▷ operation job p k) ks (a, o, free) o (apart .1) strict))
+        (free, free-before Alone (bookAfter s h) job p k ks (apart .0) (all-unheld (h ▷ operation job p k) ks (a, o, free) o (apart .1) strict))
 
     -- and then so many more places are spoken for
     pub spoken-all : (h : Log Event) (ks : List ℕ) → Apart ks → Ascending (bookAfter s h .tiles)
-        → spokenFor alone (bookAfter s (withAll h job p ks)) ≡ spokenFor alone (bookAfter s h) + needed alone (bookAfter s h) job p ks
+        → spokenFor Alone (bookAfter s (withAll h job p ks)) ≡ spokenFor Alone (bookAfter s h) + needed Alone (bookAfter s h) job p ks
     spoken-all h [] apart up = omega arith
     spoken-all h (k ∷ ks) apart up =
         let ih = spoken-all (h ▷ operation job p k) ks (apart .1) (ascending-apply (effect p) k (bookAfter s h .tiles) up) in
-        let grown = room-operation alone (bookAfter s h) job p k up in
-        let same = needed-same alone (bookAfter s h) job p k ks (apart .0) in
+        let grown = room-operation Alone (bookAfter s h) job p k up in
+        let same = needed-same Alone (bookAfter s h) job p k ks (apart .0) in
         omega arith
 
-    pub free-strict : (h : Log Event) (ks : List ℕ) → Admitted alone s h → opened job h ≡ true → Apart ks
-        → All (λ k. heldBy alone (bookAfter s h) job p k ≡ none) ks ↔ Strict alone s (kept s (withAll h job p ks))
-    free-strict h ks a o apart = (λ free. follows-strict alone s (withAll h job p ks) asc (all-admitted h ks a o apart free), all-unheld h ks a o apart)
+    pub free-strict : (h : Log Event) (ks : List ℕ) → Admitted Alone s h → opened job h ≡ true → Apart ks
+        → All (λ k. heldBy Alone (bookAfter s h) job p k ≡ none) ks ↔ Strict Alone s (kept s (withAll h job p ks))
+    free-strict h ks a o apart = (λ free. follows-strict Alone s (withAll h job p ks) asc (all-admitted h ks a o apart free), all-unheld h ks a o apart)

@@ -6,7 +6,7 @@ use mathlib.Core.Option.{Option, none, some}
 use mathlib.Core.Path.{_∙_, _≡_, ap, refl, subst, sym}
 use Prim.Native.Nat.{_<_, _^_, _≤_, ℕ}
 use native.Mathlib.Omega.{arith}
-use lib.Dec.{eqb, lt→ltb, ltb, ltb→lt}
+use lib.Dec.{eqb, ltb, ltb→lt, lt→ltb}
 use lib.IntN.{negsuc, pos, ℤ}
 use lib.ListN.{length}
 use lib.Signed.{_<ℤ_, ltZ-yes}
@@ -15,9 +15,9 @@ use Rattle.lists.specs.Lists.{All}
 use Rattle.lists.specs.Truth.{both-false, never, or-left, or-right}
 use Rattle.strict.specs.Book.{Book, heldBy}
 use Rattle.strict.specs.Operations.{begun}
-use Rattle.strict.specs.Strict.{Rule}
 use Rattle.strict.specs.Theorems.{first-holder}
 use Rattle.strict.specs.declared.Procedure.{Procedure}
+use Rattle.strict.specs.declared.Rule.{Rule}
 use Rattle.service.specs.Admission.{isOpen, openMarks}
 use Rattle.service.specs.Laws.Soundness.{sound-is}
 use Rattle.service.specs.Laws.Standing.{unrefused}

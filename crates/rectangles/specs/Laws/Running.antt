@@ -13,9 +13,9 @@ use Rattle.strict.specs.Histories.{operation}
 use Rattle.strict.specs.Laws.Members.{ascending-apply}
 use Rattle.strict.specs.Laws.Room.{room-operation}
 use Rattle.strict.specs.Operations.{begun, effect}
-use Rattle.strict.specs.Strict.{Rule}
 use Rattle.strict.specs.Tiles.{Ascending}
 use Rattle.strict.specs.declared.Procedure.{Procedure}
+use Rattle.strict.specs.declared.Rule.{Rule}
 use Rattle.service.specs.Laws.Standing.{room-left}
 use Rattle.rectangles.specs.Claims.{Apart, bytesRunOut, placesRunOut, slotsRunOut}
 use Rattle.rectangles.specs.Laws.Apart.{needed-same}

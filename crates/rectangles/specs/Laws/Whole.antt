@@ -14,13 +14,13 @@ use Rattle.lists.specs.Lists.{All}
 use Rattle.strict.specs.Strict.{Log}
 use Rattle.strict.specs.Tiles.{member}
 use Rattle.strict.specs.declared.Procedure.{Procedure}
+use Rattle.strict.specs.declared.Rule.{Rule}
 use Rattle.service.specs.Demands.{all-marks}
 use Rattle.service.specs.History.{Call, From, called, started}
 use Rattle.service.specs.Laws.Accepting.{Numbered, decided-done, decided-none, held-numbered}
 use Rattle.service.specs.Laws.Standing.{not-held, unrefused}
 use Rattle.service.specs.Told.{Refusal, Told, bare, decided, refuseHeld}
 use Rattle.service.specs.World.{World, state}
-use Rattle.service.specs.declared.Rule.{Rule}
 use Rattle.rectangles.specs.Claims.{AllDone, FromMoves, Move, Ready, Shaped, callsOf, followed, leftBy, operations, plain, rectangle, refusing, starting, went, written}
 use Rattle.rectangles.specs.Fitting.{Fits}
 use Rattle.rectangles.specs.Laws.Fitting.{done-fits, done-ready, fits-done, none-applies}

@@ -5,14 +5,13 @@ use mathlib.Core.Path.{ap}
 use lib.ListN.{take}
 use borrow.Author.Needs.{needs}
 use denote.Ref.{now}
-use Rattle.service.specs.Admission.{ruleOf}
 use Rattle.service.specs.Entry.{opIn}
 use Rattle.rules.specs.Laws.{other-kind}
 use Rattle.rules.proofs.needs_place.Statement.{statement}
 use Rattle.rules.proofs.needs_place.Tie as tie
 
 returns : tie.Need-returns
-returns c = let a = c .before .before .args in other-kind (ruleOf (a .rule)) (map opIn (take (a .used) (now (a .operations)))) (a .kind) (a .key) (c .if1 .taken)
+returns c = let a = c .before .before .args in other-kind (a .rule) (map opIn (take (a .used) (now (a .operations)))) (a .kind) (a .key) (c .if1 .taken)
 
 enum-told : tie.Need-enum-told
 enum-told c = search needs

@@ -20,13 +20,14 @@ use Rattle.strict.specs.Laws.Room.{room-operation}
 use Rattle.strict.specs.Laws.Sweeping.{few-jobs}
 use Rattle.strict.specs.Operations.{Op, begun, kind}
 use Rattle.strict.specs.Strict as theory
-use Rattle.strict.specs.Strict.{Log, Strict, _▷_, alone, run}
+use Rattle.strict.specs.Strict.{Log, Strict, _▷_, run}
 use Rattle.strict.specs.Theorems.{first-holder, held-is-exact, room-is-exact}
 use Rattle.strict.specs.Tiles.{Ascending}
 use Rattle.strict.specs.declared.Procedure.{Procedure}
 use Rattle.strict.specs.declared.Procedure.the-variants.{Del, Ins, Mem}
-use Rattle.service.specs.Admission.{answerTo, isOpen, openMarks, ruleOf}
-use Rattle.service.specs.Calls.{operationCall, settled}
+use Rattle.strict.specs.declared.Rule.the-variants.{Alone, Together}
+use Rattle.service.specs.Admission.{answerTo, isOpen, openMarks}
+use Rattle.service.specs.Calls.{concluded, operationCall}
 use Rattle.service.specs.Claims.{ChangedByOther, NoRoomByJob, Reached}
 use Rattle.service.specs.Entry.{jobIn, keyIn, kindIn, opIn}
 use Rattle.service.specs.Laws.Entries.{changes-kind}
@@ -36,7 +37,6 @@ use Rattle.service.specs.Tile.{addressCall, keyOf, placedAt}
 use Rattle.service.specs.Told.{Refusal, Told, decided, done, refuse, refuseHeld}
 use Rattle.service.specs.World.{World, freeBytes, state, usedOperations}
 use Rattle.service.specs.declared.Address.{Address}
-use Rattle.service.specs.declared.Rule.the-variants.{Alone, Together}
 
 -- THE LAST FOUR CHECKS of an operation: 6, 7, 8 and 9
 abbrev lastChecks : Option ℕ → Bool → Bool → Bool → List Refusal
@@ -90,12 +90,12 @@ abbrev keyFor : Address → ℕ
 keyFor a = addressCall a .key
 
 abbrev heldThere : World → ℕ → Procedure → Address → Option ℕ
-heldThere w job p a = heldBy (ruleOf (w .session .rule)) (state w .book) job p (keyFor a)
+heldThere w job p a = heldBy (w .session .rule) (state w .book) job p (keyFor a)
 
 abbrev noPlace : World → ℕ → Procedure → Address → Bool
 noPlace w job p a =
-    needsPlace (ruleOf (w .session .rule)) (state w .book .table) (begun job p (keyFor a) (state w .book .tiles))
-    && eqb (spokenFor (ruleOf (w .session .rule)) (state w .book)) (length (w .tiles))
+    needsPlace (w .session .rule) (state w .book .table) (begun job p (keyFor a) (state w .book .tiles))
+    && eqb (spokenFor (w .session .rule) (state w .book)) (length (w .tiles))
 
 abbrev noSlot : World → Bool
 noSlot w = eqb (length (state w .book .table)) (length (w .operations))
@@ -111,7 +111,7 @@ rest w job p a = decided (lastChecks (heldThere w job p a) (noPlace w job p a) (
 
 -- where a job fails as one
 holds-other : (marks : List Bool) (o : Op) (e : ℕ) → Entry marks e
-    → (holds theory.together o (opIn e) ≡ true) ↔ ((jobIn e ≢ o .job) × (changing (kindIn e) ≡ true) × (o .key ≡ keyIn e))
+    → (holds Together o (opIn e) ≡ true) ↔ ((jobIn e ≢ o .job) × (changing (kindIn e) ≡ true) × (o .key ≡ keyIn e))
 holds-other marks o e h = (
   λ q. let a = both _ _ q in let b = both _ _ (a .1) in
       (eqb-false (jobIn e) (o .job) (not-true _ (a .0)), sym (changes-kind marks e h) ∙ b .0, eqb-true (o .key) (keyIn e) (b .1)),
@@ -119,12 +119,12 @@ holds-other marks o e h = (
 )
 
 holder-other : (marks : List Bool) (o : Op) (es : List ℕ) → All (Entry marks) es
-    → (holder theory.together o (map opIn es) ≢ none) ↔ ChangedByOther (o .job) (o .key) es
+    → (holder Together o (map opIn es) ≢ none) ↔ ChangedByOther (o .job) (o .key) es
 holder-other marks o [] h = (λ f. f refl, λ c. absurd c)
-holder-other marks o (e ∷ es) h = go (holds theory.together o (opIn e)) refl (holder-other marks o es (h .1))
+holder-other marks o (e ∷ es) h = go (holds Together o (opIn e)) refl (holder-other marks o es (h .1))
   where
-    go : (b : Bool) → holds theory.together o (opIn e) ≡ b → (holder theory.together o (map opIn es) ≢ none) ↔ ChangedByOther (o .job) (o .key) es
-        → (cond b (some (jobIn e)) (holder theory.together o (map opIn es)) ≢ none) ↔ ChangedByOther (o .job) (o .key) (e ∷ es)
+    go : (b : Bool) → holds Together o (opIn e) ≡ b → (holder Together o (map opIn es) ≢ none) ↔ ChangedByOther (o .job) (o .key) es
+        → (cond b (some (jobIn e)) (holder Together o (map opIn es)) ≢ none) ↔ ChangedByOther (o .job) (o .key) (e ∷ es)
     go true q ih = (λ f. inl (holds-other marks o e (h .0) .0 q), λ c. some-not-none (jobIn e))
     go false q ih = (
       λ f. inr (ih .0 f),
@@ -149,14 +149,14 @@ place-wanted Mem false d = (λ e. never (sym e), λ c. never (sym (ap (λ q. eqb
 -- PAST THE FIRST FOUR: 1, 2, 3 and 5
 module _ (w : World) (job : ℕ) (p : Procedure) (a : Address) (k : ℕ) (sound : soundB w ≡ true) (small : job ≤ 63) (is-open : isOpen (state w) job ≡ true) (has-key : keyOf a ≡ some k) where
   told-is : operationCall w job p a .told ≡ rest w job p a
-  unfolding settled
+  unfolding concluded
   told-is = rw (sound, le-ltb 63 job small, is-open, keyed a k has-key)
 
   -- on every such world 6 is told, with its job, just where the table has a first holder
   pub held-names : (i : ℕ)
-      → (operationCall w job p a .told ≡ heldTold i) ↔ FirstHolder (ruleOf (w .session .rule)) (begun job p (keyFor a) (state w .book .tiles)) (state w .book .table) i
+      → (operationCall w job p a .told ≡ heldTold i) ↔ FirstHolder (w .session .rule) (begun job p (keyFor a) (state w .book .tiles)) (state w .book .table) i
   held-names i =
-      let first = first-holder (ruleOf (w .session .rule)) (begun job p (keyFor a) (state w .book .tiles)) (state w .book .table) i in
+      let first = first-holder (w .session .rule) (begun job p (keyFor a) (state w .book .tiles)) (state w .book .table) i in
       let iff = told-holder (answered w job p a) refl (heldThere w job p a) (noPlace w job p a) (noSlot w) (noBytes w) i in
       (λ e. first .0 (iff .0 (sym told-is ∙ e)), λ f. told-is ∙ iff .1 (first .1 f))
 
@@ -166,8 +166,8 @@ module _ (w : World) (job : ℕ) (p : Procedure) (a : Address) (k : ℕ) (sound 
       let six = told-six (answered w job p a) refl (heldThere w job p a) (noPlace w job p a) (noSlot w) (noBytes w) in
       let number : operationCall w job p a .told .number ≡ rest w job p a .number = ap (λ (t : Told). t .number) told-is in
       let other = holder-other (w .session .marks) (begun job p (keyFor a) (state w .book .tiles)) (usedOperations w) (sound-is w sound .tables .entries) in
-      let same : heldThere w job p a ≡ holder theory.together (begun job p (keyFor a) (state w .book .tiles)) (state w .book .table) =
-      ap (λ q. heldBy (ruleOf q) (state w .book) job p (keyFor a)) rule in
+      let same : heldThere w job p a ≡ holder Together (begun job p (keyFor a) (state w .book .tiles)) (state w .book .table) =
+      ap (λ q. heldBy q (state w .book) job p (keyFor a)) rule in
       let key : keyFor a ≡ k = ap (λ o. placedAt o .key) has-key in
       subst (λ x. (operationCall w job p a .told .number ≡ 6) ↔ ChangedByOther job x (usedOperations w)) key
       (λ e. other .0 (λ z. six .0 (sym number ∙ e) (same ∙ z)), λ c. number ∙ six .1 (λ z. other .1 c (sym same ∙ z)))
@@ -175,8 +175,8 @@ module _ (w : World) (job : ℕ) (p : Procedure) (a : Address) (k : ℕ) (sound 
   -- and 7 just where nothing holds, the operation needs a place, and all are spoken for
   pub room-told : (operationCall w job p a .told .number ≡ 7)
       ↔ ((heldThere w job p a ≡ none)
-      × (needsPlace (ruleOf (w .session .rule)) (state w .book .table) (begun job p (keyFor a) (state w .book .tiles)) ≡ true)
-      × (spokenFor (ruleOf (w .session .rule)) (state w .book) ≡ length (w .tiles)))
+      × (needsPlace (w .session .rule) (state w .book .table) (begun job p (keyFor a) (state w .book .tiles)) ≡ true)
+      × (spokenFor (w .session .rule) (state w .book) ≡ length (w .tiles)))
   room-told =
       let seven = told-full (answered w job p a) refl (heldThere w job p a) (noPlace w job p a) (noSlot w) (noBytes w) in
       let number : operationCall w job p a .told .number ≡ rest w job p a .number = ap (λ (t : Told). t .number) told-is in (
@@ -192,7 +192,7 @@ module _ (w : World) (job : ℕ) (p : Procedure) (a : Address) (k : ℕ) (sound 
       let other = holder-other (w .session .marks) o (usedOperations w) (sound-is w sound .tables .entries) in
       let given = subst
       (λ q. (operationCall w job p a .told .number ≡ 7)
-      ↔ ((heldBy (ruleOf q) (state w .book) job p (keyFor a) ≡ none) × (needsPlace (ruleOf q) us o ≡ true) × (spokenFor (ruleOf q) (state w .book) ≡ length (w .tiles))))
+      ↔ ((heldBy q (state w .book) job p (keyFor a) ≡ none) × (needsPlace q us o ≡ true) × (spokenFor q (state w .book) ≡ length (w .tiles))))
       rule room-told in
       let wants = place-wanted p (o .found) (deleted (keyFor a) us) in
       let key : keyFor a ≡ k = ap (λ o. placedAt o .key) has-key in
@@ -200,7 +200,7 @@ module _ (w : World) (job : ℕ) (p : Procedure) (a : Address) (k : ℕ) (sound 
         λ e. let c = given .0 e in
             let n = wants .0 (c .1) in
             record { not-held = λ h. other .1 h (c .0); inserts = n .0; absent = n .1; not-counted = n .2; all-taken = c .2 },
-        λ c. given .1 (nobody (holder theory.together o us) (λ h. c .not-held (other .0 h)), wants .1 (c .inserts, c .absent, c .not-counted), c .all-taken),
+        λ c. given .1 (nobody (holder Together o us) (λ h. c .not-held (other .0 h)), wants .1 (c .inserts, c .absent, c .not-counted), c .all-taken),
       )
 
   slots-used-there : length (state w .book .table) ≡ w .session .operations
@@ -208,8 +208,8 @@ module _ (w : World) (job : ℕ) (p : Procedure) (a : Address) (k : ℕ) (sound 
 
   pub accepted-told : (operationCall w job p a .told .number ≡ 0)
       ↔ ((heldThere w job p a ≡ none)
-      × (needsPlace (ruleOf (w .session .rule)) (state w .book .table) (begun job p (keyFor a) (state w .book .tiles)) ≡ true
-      → spokenFor (ruleOf (w .session .rule)) (state w .book) ≢ length (w .tiles))
+      × (needsPlace (w .session .rule) (state w .book .table) (begun job p (keyFor a) (state w .book .tiles)) ≡ true
+      → spokenFor (w .session .rule) (state w .book) ≢ length (w .tiles))
       × (w .session .operations < length (w .operations))
       × (10 + 4 * openMarks (w .session .marks) ≤ freeBytes w))
   accepted-told =
@@ -237,41 +237,41 @@ room-test false n places l = (λ e. never (sym e), λ g. absurd (omega arith))
 
 module _ (s : List ℕ) (h : Log Event) (w : World) (asc : Ascending s) (r : Reached Alone s h w) (sound : Sound w) (job : ℕ) (p : Procedure) (a : Address) (k : ℕ)
     (is-open : opened job h ≡ true) (has-key : keyOf a ≡ some k) where
-  abbrev together : Log Op
-  together = kept s (h ▷ operation job p (keyFor a))
+  abbrev added : Log Op
+  added = kept s (h ▷ operation job p (keyFor a))
 
   number-is : operationCall w job p a .told .number ≡ rest w job p a .number
   number-is =
-      let l = few-jobs alone s h (r .admitted) job is-open in
+      let l = few-jobs Alone s h (r .admitted) job is-open in
       ap (λ (t : Told). t .number) (told-is w job p a k (r .sound) (omega arith) (r .open-jobs job ∙ is-open) has-key)
 
-  held-iff : (heldThere w job p a ≡ none) ↔ Strict alone s together
+  held-iff : (heldThere w job p a ≡ none) ↔ Strict Alone s added
   held-iff =
-      subst (λ q. (heldBy (ruleOf q) (state w .book) job p (keyFor a) ≡ none) ↔ Strict alone s together) (sym (r .by-rule))
-      (subst (λ m. (heldBy alone m job p (keyFor a) ≡ none) ↔ Strict alone s together) (sym (r .book-there)) (held-is-exact s h asc (r .admitted) job p (keyFor a) is-open))
+      subst (λ q. (heldBy q (state w .book) job p (keyFor a) ≡ none) ↔ Strict Alone s added) (sym (r .by-rule))
+      (subst (λ m. (heldBy Alone m job p (keyFor a) ≡ none) ↔ Strict Alone s added) (sym (r .book-there)) (held-is-exact s h asc (r .admitted) job p (keyFor a) is-open))
 
-  pub held-just : (operationCall w job p a .told .number ≡ 6) ↔ (Strict alone s together → ⊥)
+  pub held-just : (operationCall w job p a .told .number ≡ 6) ↔ (Strict Alone s added → ⊥)
   held-just =
       let six = told-six (answered w job p a) refl (heldThere w job p a) (noPlace w job p a) (noSlot w) (noBytes w) in
       (λ e strict. six .0 (sym number-is ∙ e) (held-iff .1 strict), λ f. number-is ∙ six .1 (λ n. f (held-iff .0 n)))
 
   -- some choice needs more places than there are just where the check of room fails
   room-iff : heldThere w job p a ≡ none
-      → ((chosen : Log Op) × Choice together chosen × (length (w .tiles) < length (run s chosen))) ↔ (noPlace w job p a ≡ true)
+      → ((chosen : Log Op) × Choice added chosen × (length (w .tiles) < length (run s chosen))) ↔ (noPlace w job p a ≡ true)
   room-iff free =
       let m = bookAfter s h in
       let new = begun job p (keyFor a) (state w .book .tiles) in
-      let q = ruleOf (w .session .rule) in
-      let free-there : heldBy alone m job p (keyFor a) ≡ none = sym (ap₂ (λ x y. heldBy (ruleOf x) y job p (keyFor a)) (r .by-rule) (r .book-there)) ∙ free in
+      let q = (w .session .rule) in
+      let free-there : heldBy Alone m job p (keyFor a) ≡ none = sym (ap₂ (λ x y. heldBy x y job p (keyFor a)) (r .by-rule) (r .book-there)) ∙ free in
       let exact = room-is-exact s (h ▷ operation job p (keyFor a)) asc (r .admitted, is-open, free-there) (length (w .tiles)) in
       let grown = room-operation q (state w .book) job p (keyFor a) (sound .tables .ascending) in
-      let same : spokenFor alone (step m (operation job p (keyFor a))) ≡ spokenFor q (state w .book) + oneIf (needsPlace q (state w .book .table) new) =
-      ap₂ (λ x y. spokenFor (ruleOf x) (step y (operation job p (keyFor a)))) (sym (r .by-rule)) (sym (r .book-there)) ∙ grown in
+      let same : spokenFor Alone (step m (operation job p (keyFor a))) ≡ spokenFor q (state w .book) + oneIf (needsPlace q (state w .book .table) new) =
+      ap₂ (λ x y. spokenFor x (step y (operation job p (keyFor a)))) (sym (r .by-rule)) (sym (r .book-there)) ∙ grown in
       let test = room-test (needsPlace q (state w .book .table) new) (spokenFor q (state w .book)) (length (w .tiles)) (sound .tables .room) in
       (λ c. test .1 (let l = exact .0 c in omega arith), λ e. exact .1 (let l = test .0 e in omega arith))
 
-  pub room-just : Strict alone s together
-      → (operationCall w job p a .told .number ≡ 7) ↔ ((chosen : Log Op) × Choice together chosen × (length (w .tiles) < length (run s chosen)))
+  pub room-just : Strict Alone s added
+      → (operationCall w job p a .told .number ≡ 7) ↔ ((chosen : Log Op) × Choice added chosen × (length (w .tiles) < length (run s chosen)))
   room-just strict =
       let free = held-iff .1 strict in
       let seven = told-seven (answered w job p a) refl (noPlace w job p a) (noSlot w) (noBytes w) in
@@ -284,13 +284,13 @@ module _ (s : List ℕ) (h : Log Event) (w : World) (asc : Ascending s) (r : Rea
 
   -- no choice needs more just where the check of room passes
   fits-iff : heldThere w job p a ≡ none
-      → (noPlace w job p a ≡ false) ↔ ((chosen : Log Op) → Choice together chosen → length (run s chosen) ≤ length (w .tiles))
+      → (noPlace w job p a ≡ false) ↔ ((chosen : Log Op) → Choice added chosen → length (run s chosen) ≤ length (w .tiles))
   fits-iff free = (
     λ e chosen c. go chosen c e (leb (length (run s chosen)) (length (w .tiles))) refl,
     λ f. not-full (noPlace w job p a) (λ e. let c = room-iff free .1 e in let l = f (c .0) (c .1) in let g = c .2 in omega arith),
   )
     where
-      go : (chosen : Log Op) → Choice together chosen → noPlace w job p a ≡ false → (b : Bool) → leb (length (run s chosen)) (length (w .tiles)) ≡ b
+      go : (chosen : Log Op) → Choice added chosen → noPlace w job p a ≡ false → (b : Bool) → leb (length (run s chosen)) (length (w .tiles)) ≡ b
           → length (run s chosen) ≤ length (w .tiles)
       go chosen c e true q = leb-true _ _ q
       go chosen c e false q = never (sym (room-iff free .0 (chosen, c, leb-false _ _ q)) ∙ e)
@@ -300,8 +300,8 @@ module _ (s : List ℕ) (h : Log Event) (w : World) (asc : Ascending s) (r : Rea
       not-full false f = refl
 
   pub accepted-just : (operationCall w job p a .told .number ≡ 0)
-      ↔ (Strict alone s together
-      × ((chosen : Log Op) → Choice together chosen → length (run s chosen) ≤ length (w .tiles))
+      ↔ (Strict Alone s added
+      × ((chosen : Log Op) → Choice added chosen → length (run s chosen) ≤ length (w .tiles))
       × (w .session .operations < length (w .operations))
       × (10 + 4 * openMarks (w .session .marks) ≤ freeBytes w))
   accepted-just =

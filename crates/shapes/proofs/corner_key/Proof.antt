@@ -4,11 +4,11 @@ use mir.Facts.{toZ-ofZ}
 use Rattle.shapes.proofs.corner_key.Statement.{statement}
 use Rattle.shapes.proofs.corner_key.Tie as tie
 
-address-requires : tie.Need-address-requires
-address-requires c κs = search needs
+locate-requires : tie.Need-locate-requires
+locate-requires c κs = search needs
 
 returns : tie.Need-returns
-returns c = rw (toZ-ofZ (c .before .fits .column), toZ-ofZ (c .before .fits .row)) at (c .address .ensures)
+returns c = rw (toZ-ofZ (c .before .fits .column), toZ-ofZ (c .before .fits .row)) at (c .locate .ensures)
 
 pub corner-key-spec : {M : Type 1} → statement M
-corner-key-spec = tie.close (tie.spec address-requires returns)
+corner-key-spec = tie.close (tie.spec locate-requires returns)

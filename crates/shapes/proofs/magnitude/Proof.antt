@@ -2,7 +2,7 @@
 use mathlib.Core.Path.{ap}
 use native.Mathlib.Omega.{arith}
 use lib.IntN.{natAbs}
-use Rattle.tile.proofs.Signed.{read, turned-fits, turned-read}
+use Rattle.address.proofs.Signed.{read, turned-fits, turned-read}
 use Rattle.shapes.proofs.magnitude.Statement.{statement}
 use Rattle.shapes.proofs.magnitude.Tie as tie
 

@@ -9,7 +9,7 @@ use mir.Syntax.{w32}
 use mir.Val.{SFits, ofZ, toZ}
 use borrow.Author.Needs.{needs}
 use Rattle.rectangles.specs.Rectangles as shape
-use Rattle.tile.proofs.Signed.{above, below}
+use Rattle.address.proofs.Signed.{above, below}
 use Rattle.shapes.proofs.span.Statement.{statement}
 use Rattle.shapes.proofs.span.Tie as tie
 

@@ -3,9 +3,9 @@ use mathlib.Core.Path.{_∙_, _≡_, ap}
 use borrow.Author.Needs.{needs}
 use denote.Ref.{now}
 use Rattle.lists.specs.Truth.{test-fails, test-passes}
+use Rattle.strict.specs.declared.Rule.the-variants.{Alone}
 use Rattle.service.specs.Calls.{fresh}
 use Rattle.service.specs.Sound.{every}
-use Rattle.service.specs.declared.Rule.the-variants.{Alone}
 use Rattle.service.specs.declared.Session.{Session}
 use Rattle.soundness.proofs.Laws.{counted, journal-decides, start-fails}
 use Rattle.soundness.proofs.can_start.Statement.{statement}
