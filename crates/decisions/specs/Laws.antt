@@ -6,16 +6,14 @@ use Prim.Native.Nat.{_*_, _+_, _<_, _≤_, ℕ}
 use lib.Dec.{eqb, ltb}
 use lib.ListN.{length}
 use borrow.Author.Tests.{eqb-true, le-ltb, lt-ltb, not-false}
-use Rattle.admission.specs.Laws.{Means}
-use Rattle.admission.specs.declared.Verdict.the-variants.{Admitted, Held, NoOperationRoom, NoTileRoom}
-use Rattle.admission.specs.declared.Verdict.{Verdict}
 use Rattle.lists.specs.Truth.{never}
+use Rattle.strict.specs.declared.Procedure.{Procedure}
 use Rattle.service.specs.Admission.{isOpen, openMarks}
 use Rattle.service.specs.Calls.{endRefusals, openRefusals, operationRefusals}
 use Rattle.service.specs.History.{committing}
-use Rattle.service.specs.Laws.Accepting.{decided-done, decided-none, numbered}
+use Rattle.service.specs.Laws.Accepting.{numbered}
 use Rattle.service.specs.Laws.Soundness.{sound-is}
-use Rattle.service.specs.Laws.Standing.{unrefused}
+use Rattle.service.specs.Laws.Telling.{decided-done, decided-none, unrefused}
 use Rattle.service.specs.Sound.{Sound, soundB}
 use Rattle.service.specs.Tile.{Placed, addressCall, placed}
 use Rattle.service.specs.Told.{Refusal, Told, bare, decided, done, refuse, refused, told}
@@ -24,7 +22,9 @@ use Rattle.service.specs.declared.Address.{Address}
 use Rattle.service.specs.declared.Located.the-variants.{Key, Refused}
 use Rattle.service.specs.declared.Reply.the-variants as reply
 use Rattle.service.specs.declared.Reply.{Reply}
-use Rattle.strict.specs.declared.Procedure.{Procedure}
+use Rattle.admission.specs.Laws.{Means}
+use Rattle.admission.specs.declared.Verdict.the-variants.{Admitted, Held, NoOperationRoom, NoTileRoom}
+use Rattle.admission.specs.declared.Verdict.{Verdict}
 use Rattle.decisions.specs.Decides.{Decides, Judges, lastRefusals}
 use Rattle.decisions.specs.declared.Decision.the-variants.{Perform, Refuse}
 use Rattle.decisions.specs.declared.Decision.{Decision}

@@ -9,14 +9,14 @@ use lib.Dec.{eqb}
 use lib.ListN.{drop, drop-of-length-le, getD, length, take}
 use lib.Seq.{drop-cons}
 use borrow.Author.Tests.{eq-eqb, ne-eqb}
+use Rattle.lists.specs.Lists.{padded}
 use Rattle.strict.specs.Book.{counted}
-use Rattle.service.specs.Calls.{padded}
 use Rattle.service.specs.Entry.{jobIn, opIn}
 use Rattle.service.specs.Laws.Storing.{length-padded, used-padded}
 use Rattle.tiles.specs.Laws.{padded-table, used-length}
 use Rattle.tiles.specs.Table.{TileTable}
-use Rattle.engine.proofs.Laws.{undone-ascending, undone-fits}
 use Rattle.engine.specs.Undoing.{recovered, recoveredJob}
+use Rattle.engine.proofs.Laws.{undone-ascending, undone-fits}
 
 -- the entries es from i on have been undone
 pub record Undoing (tiles₀ : List ℕ) (count : ℕ) (es : List ℕ) (job : ℕ) (tiles : List ℕ) (left i : ℕ) : Type 0 where

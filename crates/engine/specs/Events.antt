@@ -3,14 +3,14 @@ use mathlib.Core.Bool.{false, true}
 use mathlib.Core.Path.{_≡_}
 use Prim.Native.Nat.{ℕ}
 use lib.ListN.{length, set}
+use Rattle.strict.specs.Histories.{Event}
+use Rattle.strict.specs.declared.Rule.the-variants.{Together}
 use Rattle.service.specs.Admission.{refusals}
-use Rattle.service.specs.Laws.Standing.{Named}
+use Rattle.service.specs.Claims.{Named}
 use Rattle.service.specs.Sound.{Tabled}
 use Rattle.service.specs.Told.{refused}
 use Rattle.service.specs.World.{World, state}
 use Rattle.service.specs.declared.Session.{Session}
-use Rattle.strict.specs.Histories.{Event}
-use Rattle.strict.specs.declared.Rule.the-variants.{Together}
 
 -- the tables are sound, the event names a job and a key, and nothing but the journal may refuse it
 pub record Ready (w : World) (e : Event) : Type 0 where

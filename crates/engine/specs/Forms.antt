@@ -6,13 +6,16 @@ use Prim.Native.Nat.{_+_, _<_, _≤_, ℕ}
 use native.Mathlib.Omega.{arith}
 use lib.Dec.{eqb}
 use lib.ListN.{length, length-append, length-map, set}
-use Rattle.admission.specs.Laws.{entry-table, operations-count, tile-table, tiles-count}
-use Rattle.entries.specs.Laws.{decoded, others-without, padded-more}
-use Rattle.entries.specs.Table.{withoutJob}
-use Rattle.lists.specs.Lists.{All}
+use Rattle.lists.specs.Lists.{All, padded}
 use Rattle.lists.specs.Truth.{by-cond}
+use Rattle.strict.specs.Book.{others, recover}
+use Rattle.strict.specs.Histories.{Event, abort, commit, openJob, operation}
+use Rattle.strict.specs.Operations.{Op, apply, begun, clear, effect, kind, put, skip, undo}
+use Rattle.strict.specs.Tiles.{delete, insertTile, member}
+use Rattle.strict.specs.declared.Procedure.{Procedure}
+use Rattle.strict.specs.declared.Rule.the-variants.{Together}
 use Rattle.service.specs.Admission.{perform}
-use Rattle.service.specs.Calls.{padded, withState}
+use Rattle.service.specs.Calls.{withState}
 use Rattle.service.specs.Entry.{entryOf, jobIn, keyIn, kindIn, opIn, packEntry}
 use Rattle.service.specs.Laws.Entries.{entries-back}
 use Rattle.service.specs.Laws.Standing.{Stands, stands-perform}
@@ -21,12 +24,9 @@ use Rattle.service.specs.Replay.{ruled}
 use Rattle.service.specs.Sound.{Entry, Tabled}
 use Rattle.service.specs.World.{World, state, usedOperations, usedTiles, world}
 use Rattle.service.specs.declared.Session.{Session}
-use Rattle.strict.specs.Book.{others, recover}
-use Rattle.strict.specs.Histories.{Event, abort, commit, openJob, operation}
-use Rattle.strict.specs.Operations.{Op, apply, begun, clear, effect, kind, put, skip, undo}
-use Rattle.strict.specs.Tiles.{delete, insertTile, member}
-use Rattle.strict.specs.declared.Procedure.{Procedure}
-use Rattle.strict.specs.declared.Rule.the-variants.{Together}
+use Rattle.entries.specs.Laws.{decoded, others-without, padded-more}
+use Rattle.entries.specs.Table.{withoutJob}
+use Rattle.admission.specs.Laws.{entry-table, operations-count, tile-table, tiles-count}
 use Rattle.engine.specs.Events.{Ready, closed, governed, markedOpen}
 use Rattle.engine.specs.Undoing.{recovered, recoveredJob}
 

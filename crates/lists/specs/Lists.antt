@@ -2,10 +2,10 @@
 use mathlib.Core.Bool.{Bool, _&&_, true}
 use mathlib.Core.List.{List, [], _++_, _∷_}
 use mathlib.Core.Path.{_∙_, _≡_, ap, refl}
-use Prim.Native.Nat.{_+_, _<_, _≤_, suc, ℕ}
+use Prim.Native.Nat.{_+_, _-_, _<_, _≤_, suc, ℕ}
 use native.Mathlib.Numerals.{add-one}
 use native.Mathlib.Omega.{arith}
-use lib.ListN.{drop-of-length-le, getD, length, length-take, set, take}
+use lib.ListN.{drop-of-length-le, getD, length, length-take, replicate, set, take}
 use lib.Seq.{sets, slice, slice-cons}
 use Rattle.lists.specs.Truth.{and-both, both}
 
@@ -40,3 +40,7 @@ sets-sets l i [] ys = let e : i + 0 ≡ i = omega arith in ap (λ n. sets l n ys
 sets-sets l i (x ∷ xs) ys =
     let e : i + suc (length xs) ≡ suc i + length xs = omega arith in
     ap (λ n. sets (sets (set l i x) (suc i) xs) n ys) e ∙ sets-sets (set l i x) (suc i) xs ys
+
+-- a table of n places: what is used, and 0 behind it
+abbrev pub padded : ℕ → List ℕ → List ℕ
+padded n used = used ++ replicate (n - length used) 0

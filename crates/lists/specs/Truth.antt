@@ -1,9 +1,9 @@
 -- Truth values, and numbers that are the same or not
-use mathlib.Core.Path.{_≡_, refl, sym, ap, ap₂, _∙_, subst}
-use mathlib.Core.Bool.{Bool, true, false, cond, not, _&&_, _||_, Bool·beq}
+use mathlib.Core.Path.{_∙_, _≡_, ap, ap₂, refl, subst, sym}
+use mathlib.Core.Bool.{Bool, Bool·beq, _&&_, _||_, cond, false, not, true}
 use Prim.Native.Nat.{ℕ}
 use lib.Dec.{T, eqb}
-use borrow.Author.Tests.{not-true, not-false, eqb-true, eqb-false, eq-eqb}
+use borrow.Author.Tests.{eq-eqb, eqb-false, eqb-true, not-false, not-true}
 
 pub never : {A : Type 0} → true ≡ false → A
 never e = absurd (subst T e tt)
@@ -39,6 +39,10 @@ or-left false b e = refl
 pub or-right : (a b : Bool) → a || b ≡ false → b ≡ false
 or-right true b e = never e
 or-right false b e = e
+
+pub or-true : (a : Bool) {b : Bool} → b ≡ true → a || b ≡ true
+or-true true e = refl
+or-true false e = e
 
 pub both-false : {a b : Bool} → a ≡ false → b ≡ false → a || b ≡ false
 both-false p q = ap₂ _||_ p q

@@ -12,18 +12,19 @@ use Rattle.strict.specs.Operations.{begun}
 use Rattle.strict.specs.declared.Procedure.{Procedure}
 use Rattle.strict.specs.declared.Rule.{Rule}
 use Rattle.service.specs.Admission.{openMarks}
+use Rattle.service.specs.Claims.{Serves}
 use Rattle.service.specs.Tile.{isKey}
 use Rattle.service.specs.Told.{Refusal, Told, bare, decided}
 use Rattle.service.specs.World.{Reported, World, freeBytes, state}
-use Rattle.rectangles.specs.Claims.{Apart, Ready}
-use Rattle.rectangles.specs.Rectangles.{carriedAll, firstHeld, listRefusals, needed, roomRefusals, ruledBy}
+use Rattle.rectangles.specs.Claims.{Apart}
+use Rattle.rectangles.specs.Rectangles.{carriedAll, firstHeld, listRefusals, needed, roomRefusals}
 use Rattle.rectangles.specs.declared.Rectangle.{Rectangle}
 use Rattle.shapes.specs.Shaping.{Shapes}
 use Rattle.shapes.specs.declared.Shape.the-variants.{Fine}
-use Rattle.placing.specs.declared.Found.{Found}
 use Rattle.placing.specs.declared.Found.the-variants as found
-use Rattle.placing.specs.declared.Seen.{Seen}
+use Rattle.placing.specs.declared.Found.{Found}
 use Rattle.placing.specs.declared.Seen.the-variants as look
+use Rattle.placing.specs.declared.Seen.{Seen}
 
 -- THE PASS THAT DECIDES
 -- one tile: its holder, or whether it needs a place
@@ -45,7 +46,7 @@ listOf b m job p ks = listBy (firstHeld b m job p ks) (needed b m job p ks)
 -- 7, 8 and 9, where `need` tiles of n need a place
 abbrev pub roomFor : World → ℕ → ℕ → List Refusal
 roomFor w need n =
-    roomRefusals (ltb (length (w .tiles)) (spokenFor (ruledBy w) (state w .book) + need)) (ltb (length (w .operations)) (length (state w .book .table) + n))
+    roomRefusals (ltb (length (w .tiles)) (spokenFor (w .session .rule) (state w .book) + need)) (ltb (length (w .operations)) (length (state w .book .table) + n))
     (ltb (freeBytes w) (10 * n + 4 * openMarks (w .session .marks)))
 
 -- THE PASS THAT CARRIES OUT
@@ -58,7 +59,7 @@ listCall w job p ks = listAfter w job p ks (decided (listRefusals w job p ks) (b
 
 -- 1, 2 and 3 do not refuse, and the first n of l are keys of different tiles
 pub record Carries (w : World) (job : ℕ) (l : List ℕ) (n : ℕ) : Type 0 where
-  pub ready : Ready w job
+  pub ready : Serves w job
   pub few : n ≤ 256
   pub fits-list : n ≤ length l
   pub valid : All (λ k. isKey k ≡ true) (take n l)
@@ -66,5 +67,5 @@ pub record Carries (w : World) (job : ℕ) (l : List ℕ) (n : ℕ) : Type 0 whe
 
 -- nor do 5 and 13
 pub record Asks (w : World) (job : ℕ) (r : Rectangle) (corner height n : ℕ) : Type 0 where
-  pub ready : Ready w job
+  pub ready : Serves w job
   pub shape : Shapes r (Fine corner height n)

@@ -5,12 +5,12 @@ ghost use mathlib.Core.Path.{_≡_};
 ghost use Prim.Native.Nat.{_+_, _<_, _≤_};
 ghost use lib.ListN.{length, take};
 ghost use Rattle.lists.specs.Truth.{oneIf};
+ghost use Rattle.service.specs.Claims.{Serves};
 ghost use Rattle.service.specs.Sound.{Sound, Tabled};
 ghost use Rattle.service.specs.Told.{bare, decided, told};
 ghost use Rattle.service.specs.World.{reported, state, world};
 ghost use Rattle.scans.specs.Filter.{Covers};
 ghost use Rattle.scans.specs.Tests.{elsewhere};
-ghost use Rattle.rectangles.specs.Claims.{Ready};
 ghost use Rattle.rectangles.specs.Fitting.{Ahead};
 ghost use Rattle.rectangles.specs.Rectangles.{carriedAll, keys as keysOf, listRefusals, listed, procedureFor, rectangleCall};
 ghost use Rattle.placing.specs.Passes.{Asks, Carries, listCall, listOf, lookOf, roomFor};
@@ -277,7 +277,7 @@ fn carry_shaped(
     change: Change,
     r: Rectangle,
 ) -> Outcome
-    requires { ⌜ Ready (world session (now tiles) (now operations) (now journal)) job ⌝ }
+    requires { ⌜ Serves (world session (now tiles) (now operations) (now journal)) job ⌝ }
     ensures { λ x. ⌜ reported x (now (tiles .exit)) (now (operations .exit)) (now (journal .exit))
         ≡ rectangleCall (world session (now (tiles .entry)) (now (operations .entry)) (now (journal .entry))) job change r ⌝ }
 {

@@ -17,15 +17,14 @@ use Rattle.strict.specs.Operations.{begun}
 use Rattle.strict.specs.Strict.{Log, _▷_, empty}
 use Rattle.strict.specs.declared.Procedure.{Procedure}
 use Rattle.strict.specs.declared.Rule.{Rule}
-use Rattle.service.specs.Admission.{isOpen}
 use Rattle.service.specs.Calls.{startCall}
 use Rattle.service.specs.History.{Call, call, operating}
 use Rattle.service.specs.Journal.{encode, recordOf}
-use Rattle.service.specs.Sound.{soundB}
+use Rattle.service.specs.Limits.{operationSize, shortSize}
 use Rattle.service.specs.Tile.{keyAt}
-use Rattle.service.specs.World.{Reported, World, state}
+use Rattle.service.specs.World.{Reported, World}
 use Rattle.service.specs.declared.Address.{Address}
-use Rattle.rectangles.specs.Rectangles.{height, keyFor, listed, misshapen, outOfRange, procedureFor, rectangleCall, width}
+use Rattle.rectangles.specs.Rectangles.{height, keyFor, listed, misshapen, mostInRectangle, outOfRange, procedureFor, rectangleCall, width}
 use Rattle.rectangles.specs.declared.Change.{Change}
 use Rattle.rectangles.specs.declared.Rectangle.{Rectangle}
 
@@ -87,13 +86,7 @@ slotsRunOut slots m job p (k ∷ ks) = eqb (length (m .table)) slots || slotsRun
 
 abbrev pub bytesRunOut : ℕ → ℕ → List ℕ → Bool
 bytesRunOut free open-jobs [] = false
-bytesRunOut free open-jobs (k ∷ ks) = ltb free (10 + 4 * open-jobs) || bytesRunOut (free - 10) open-jobs ks
-
--- 1, 2 and 3 do not refuse
-pub record Ready (w : World) (job : ℕ) : Type 0 where
-  pub is-sound-there : soundB w ≡ true
-  pub small : job ≤ 63
-  pub is-open : isOpen (state w) job ≡ true
+bytesRunOut free open-jobs (k ∷ ks) = ltb free (operationSize + shortSize * open-jobs) || bytesRunOut (free - operationSize) open-jobs ks
 
 -- of the tiles ks, in order, the first that is held, and the first entry that holds it
 pub record FirstHeld (rule : Rule) (m : Book) (job : ℕ) (p : Procedure) (ks : List ℕ) (holder : ℕ) : Type 0 where
@@ -105,12 +98,12 @@ pub record FirstHeld (rule : Rule) (m : Book) (job : ℕ) (p : Procedure) (ks : 
   pub held-there : FirstHolder rule (begun job p tile (m .tiles)) (m .table) holder
 
 -- the numbers that refuse a rectangle, in the order in which they are judged
-abbrev pub refusing : List ℕ
-refusing = 1 ∷ 2 ∷ 3 ∷ 5 ∷ 13 ∷ 6 ∷ 7 ∷ 8 ∷ 9 ∷ []
+abbrev pub refusingRectangle : List ℕ
+refusingRectangle = 1 ∷ 2 ∷ 3 ∷ 5 ∷ 13 ∷ 6 ∷ 7 ∷ 8 ∷ 9 ∷ []
 
 -- 13 in words
 abbrev pub Misshapen : Rectangle → Type 0
-Misshapen r = (r .east <ℤ r .west) ⊎ ((r .bottom <ℤ r .top) ⊎ ((2 ^ (r .zoom) < width r) ⊎ (256 < width r * height r)))
+Misshapen r = (r .east <ℤ r .west) ⊎ ((r .bottom <ℤ r .top) ⊎ ((2 ^ (r .zoom) < width r) ⊎ (mostInRectangle < width r * height r)))
 
 -- CALLS FROM A START BY A RULE, WITH RECTANGLES AMONG THEM
 pub data Move : Type 0 where

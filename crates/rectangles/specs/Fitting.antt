@@ -9,11 +9,12 @@ use Rattle.lists.specs.Lists.{All}
 use Rattle.strict.specs.Book.{spokenFor}
 use Rattle.strict.specs.declared.Procedure.{Procedure}
 use Rattle.service.specs.Admission.{openMarks}
+use Rattle.service.specs.Claims.{Serves}
 use Rattle.service.specs.Tile.{isKey}
 use Rattle.service.specs.World.{World, freeBytes, state}
 use Rattle.service.specs.declared.Address.{Address}
-use Rattle.rectangles.specs.Claims.{Apart, Ready}
-use Rattle.rectangles.specs.Rectangles.{carriedAll, firstHeld, needed, ruledBy, unplaced}
+use Rattle.rectangles.specs.Claims.{Apart}
+use Rattle.rectangles.specs.Rectangles.{carriedAll, firstHeld, needed, unplaced}
 
 -- every address has a key
 abbrev pub Placed : List Address → Type 0
@@ -21,9 +22,9 @@ Placed xs = All (λ a. unplaced a ≡ false) xs
 
 -- 1, 2 and 3 do not refuse, nor do 6, 7, 8 and 9 the list
 pub record Fits (w : World) (job : ℕ) (p : Procedure) (ks : List ℕ) : Type 0 where
-  pub ready : Ready w job
-  pub unheld : firstHeld (ruledBy w) (state w .book) job p ks ≡ none
-  pub places : spokenFor (ruledBy w) (state w .book) + needed (ruledBy w) (state w .book) job p ks ≤ length (w .tiles)
+  pub ready : Serves w job
+  pub unheld : firstHeld (w .session .rule) (state w .book) job p ks ≡ none
+  pub places : spokenFor (w .session .rule) (state w .book) + needed (w .session .rule) (state w .book) job p ks ≤ length (w .tiles)
   pub slots : length (state w .book .table) + length ks ≤ length (w .operations)
   pub bytes : 10 * length ks + 4 * openMarks (w .session .marks) ≤ freeBytes w
 

@@ -1,6 +1,6 @@
 -- Rectangles of tiles, and the call that inserts or deletes all tiles of one
-use mathlib.Core.Bool.{Bool, _||_, cond, not}
-use mathlib.Core.List.{List, [], _∷_, map}
+use mathlib.Core.Bool.{Bool, _||_, cond}
+use mathlib.Core.List.{List, [], _++_, _∷_, map}
 use mathlib.Core.Option.{Option, none, some}
 use Prim.Native.Nat.{_%_, _*_, _+_, _-_, _/_, _^_, suc, zero, ℕ}
 use lib.Dec.{eqb, ltb}
@@ -10,18 +10,18 @@ use Rattle.lists.specs.Truth.{oneIf}
 use Rattle.strict.specs.Book.{Book, heldBy, needsPlace, spokenFor}
 use Rattle.strict.specs.Histories.{operation}
 use Rattle.strict.specs.Operations.{begun}
-use Rattle.strict.specs.declared.Procedure.{Procedure}
 use Rattle.strict.specs.declared.Procedure.the-variants.{Del, Ins}
+use Rattle.strict.specs.declared.Procedure.{Procedure}
 use Rattle.strict.specs.declared.Rule.{Rule}
-use Rattle.service.specs.Admission.{isOpen, openMarks}
-use Rattle.service.specs.Calls.{carried}
-use Rattle.service.specs.Sound.{soundB}
+use Rattle.service.specs.Admission.{openMarks}
+use Rattle.service.specs.Calls.{carried, endRefusals}
+use Rattle.service.specs.Limits.{operationSize, shortSize}
 use Rattle.service.specs.Tile.{addressCall}
 use Rattle.service.specs.Told.{Refusal, Told, bare, decided, refuse, refuseHeld}
 use Rattle.service.specs.World.{Reported, World, freeBytes, state}
 use Rattle.service.specs.declared.Address.{Address}
-use Rattle.rectangles.specs.declared.Change.{Change}
 use Rattle.rectangles.specs.declared.Change.the-variants.{Delete, Insert}
+use Rattle.rectangles.specs.declared.Change.{Change}
 use Rattle.rectangles.specs.declared.Rectangle.{Rectangle}
 
 -- THE LIST
@@ -67,9 +67,12 @@ abbrev pub outOfRange : Rectangle → Bool
 outOfRange r =
     unplaced (record { zoom = r .zoom; column = r .west; row = r .top }) || unplaced (record { zoom = r .zoom; column = r .east; row = r .bottom })
 
--- 13: empty, wider than the level, or of more than 256 tiles
+-- 13: empty, wider than the level, or of too many tiles
+abbrev pub mostInRectangle : ℕ
+mostInRectangle = 256
+
 abbrev pub misshapen : Rectangle → Bool
-misshapen r = eqb (width r) 0 || (eqb (height r) 0 || (ltb (2 ^ (r .zoom)) (width r) || ltb 256 (area r)))
+misshapen r = eqb (width r) 0 || (eqb (height r) 0 || (ltb (2 ^ (r .zoom)) (width r) || ltb mostInRectangle (area r)))
 
 -- THE CALL
 abbrev pub procedureFor : Change → Procedure
@@ -90,35 +93,25 @@ abbrev pub needed : Rule → Book → ℕ → Procedure → List ℕ → ℕ
 needed rule m job p [] = 0
 needed rule m job p (k ∷ ks) = oneIf (needsPlace rule (m .table) (begun job p k (m .tiles))) + needed rule m job p ks
 
--- the rule by which the tables of w are judged
-abbrev pub ruledBy : World → Rule
-ruledBy w = (w .session .rule)
-
--- 7: more than are free; 8: the list is longer than the free operation places; 9: there are fewer than 10 bytes a tile and 4 an open job
+-- 7: more than are free; 8: the list is longer than the free operation places; 9: there are fewer bytes than a record a tile, and one for each open job, take
 abbrev pub fewPlaces : World → ℕ → Procedure → List ℕ → Bool
-fewPlaces w job p ks = ltb (length (w .tiles)) (spokenFor (ruledBy w) (state w .book) + needed (ruledBy w) (state w .book) job p ks)
+fewPlaces w job p ks = ltb (length (w .tiles)) (spokenFor (w .session .rule) (state w .book) + needed (w .session .rule) (state w .book) job p ks)
 
 abbrev pub fewSlots : World → List ℕ → Bool
 fewSlots w ks = ltb (length (w .operations)) (length (state w .book .table) + length ks)
 
 abbrev pub fewBytes : World → List ℕ → Bool
-fewBytes w ks = ltb (freeBytes w) (10 * length ks + 4 * openMarks (w .session .marks))
+fewBytes w ks = ltb (freeBytes w) (operationSize * length ks + shortSize * openMarks (w .session .marks))
 
 abbrev pub roomRefusals : Bool → Bool → Bool → List Refusal
 roomRefusals places slots bytes = refuse 7 places ∷ refuse 8 slots ∷ refuse 9 bytes ∷ []
 
 -- 6, 7, 8 and 9, for a list of keys
 abbrev pub listRefusals : World → ℕ → Procedure → List ℕ → List Refusal
-listRefusals w job p ks = refuseHeld (firstHeld (ruledBy w) (state w .book) job p ks) ∷ roomRefusals (fewPlaces w job p ks) (fewSlots w ks) (fewBytes w ks)
+listRefusals w job p ks = refuseHeld (firstHeld (w .session .rule) (state w .book) job p ks) ∷ roomRefusals (fewPlaces w job p ks) (fewSlots w ks) (fewBytes w ks)
 
 abbrev pub rectangleRefusals : World → ℕ → Procedure → Rectangle → List Refusal
-rectangleRefusals w job p r =
-    refuse 1 (not (soundB w))
-    ∷ refuse 2 (ltb 63 job)
-    ∷ refuse 3 (not (isOpen (state w) job))
-    ∷ refuse 5 (outOfRange r)
-    ∷ refuse 13 (misshapen r)
-    ∷ listRefusals w job p (keys (listed r))
+rectangleRefusals w job p r = endRefusals w job ++ (refuse 5 (outOfRange r) ∷ refuse 13 (misshapen r) ∷ listRefusals w job p (keys (listed r)))
 
 -- the operations of a list of keys, carried out one after another, with a record each
 abbrev pub carriedAll : World → ℕ → Procedure → List ℕ → World

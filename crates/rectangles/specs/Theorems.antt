@@ -16,24 +16,24 @@ use Rattle.strict.specs.Histories.{kept, opened}
 use Rattle.strict.specs.Operations.{Op}
 use Rattle.strict.specs.Strict.{Log, Strict, run}
 use Rattle.strict.specs.Tiles.{member}
-use Rattle.strict.specs.declared.Rule.{Rule}
 use Rattle.strict.specs.declared.Rule.the-variants.{Alone}
+use Rattle.strict.specs.declared.Rule.{Rule}
 use Rattle.service.specs.Admission.{isOpen, openMarks}
-use Rattle.service.specs.Claims.{Keeps, Reads, RebuildsAlone, Stops}
+use Rattle.service.specs.Claims.{Keeps, RebuildsAlone, Serves, records}
 use Rattle.service.specs.Demands.{replay-exact}
+use Rattle.service.specs.Extents.{extentIn, upto}
 use Rattle.service.specs.History.{Call, From, history}
-use Rattle.service.specs.Journal.{readAt}
+use Rattle.service.specs.Limits.{jobCount, lastJob}
 use Rattle.service.specs.Sound.{soundB}
 use Rattle.service.specs.World.{World, freeBytes, state, usedJournal}
-use Rattle.service.specs.declared.Record.{Record}
-use Rattle.rectangles.specs.Claims.{AllDone, Apart, Before, FirstHeld, FromMoves, Inside, Misshapen, Move, Ready, Shaped, bytesRunOut, callsOf, followed, leftBy, placesRunOut, recordsOf, refusing, slotsRunOut, written}
+use Rattle.rectangles.specs.Claims.{AllDone, Apart, Before, FirstHeld, FromMoves, Inside, Misshapen, Move, Shaped, bytesRunOut, callsOf, followed, leftBy, placesRunOut, recordsOf, refusingRectangle, slotsRunOut, written}
 use Rattle.rectangles.specs.Laws.Demanding.{rectangle-accepted, rectangle-held, rectangle-room-just}
 use Rattle.rectangles.specs.Laws.Judging.{told-first, told-five, told-held, told-room, told-thirteen}
 use Rattle.rectangles.specs.Laws.Keeping.{all-keep, all-write}
 use Rattle.rectangles.specs.Laws.Listing.{length-sequence, span-within, within-span}
 use Rattle.rectangles.specs.Laws.Tiles.{all-apart, in-order, listed-exactly}
-use Rattle.rectangles.specs.Laws.Whole.{done-shaped, moves-written, rectangle-ready, told-among, whole-done, whole-leaves}
-use Rattle.rectangles.specs.Rectangles.{carriedAll, height, keys, listed, outOfRange, procedureFor, rectangleCall, ruledBy, span, tileAt, width}
+use Rattle.rectangles.specs.Laws.Whole.{done-shaped, moves-written, rectangle-serves, told-among, whole-done, whole-leaves}
+use Rattle.rectangles.specs.Rectangles.{carriedAll, height, keys, listed, outOfRange, procedureFor, rectangleCall, span, tileAt, width}
 use Rattle.rectangles.specs.declared.Change.{Change}
 use Rattle.rectangles.specs.declared.Rectangle.{Rectangle}
 
@@ -59,7 +59,7 @@ rectangle-in-order r s i j l u = in-order r s i j l
 module _ (w : World) (job : ℕ) (change : Change) (r : Rectangle) where
   -- whole, or refused by a number of its list
   pub rectangle-refusal-changes-nothing : rectangleCall w job change r .told .number ≢ 0
-      → (rectangleCall w job change r .after ≡ w) × (member (rectangleCall w job change r .told .number) refusing ≡ true)
+      → (rectangleCall w job change r .after ≡ w) × (member (rectangleCall w job change r .told .number) refusingRectangle ≡ true)
   unfolding rectangleCall
   rectangle-refusal-changes-nothing n = (
     ap (λ b. cond b (carriedAll w job (procedureFor change) (keys (listed r))) w) (ne-eqb (rectangleCall w job change r .told .number) 0 n),
@@ -69,29 +69,29 @@ module _ (w : World) (job : ℕ) (change : Change) (r : Rectangle) where
   -- its numbers: 1, then 2, then 3
   pub rectangle-first-three : let told = rectangleCall w job change r .told .number in
       ((told ≡ 1) ↔ (soundB w ≡ false))
-      × ((told ≡ 2) ↔ ((soundB w ≡ true) × (63 < job)))
-      × ((told ≡ 3) ↔ ((soundB w ≡ true) × (job ≤ 63) × (isOpen (state w) job ≡ false)))
+      × ((told ≡ 2) ↔ ((soundB w ≡ true) × (lastJob < job)))
+      × ((told ≡ 3) ↔ ((soundB w ≡ true) × (job ≤ lastJob) × (isOpen (state w) job ≡ false)))
   rectangle-first-three = told-first w job change r
 
   -- then 5, and then 13
-  pub rectangle-five : (rectangleCall w job change r .told .number ≡ 5) ↔ (Ready w job × (outOfRange r ≡ true))
+  pub rectangle-five : (rectangleCall w job change r .told .number ≡ 5) ↔ (Serves w job × (outOfRange r ≡ true))
   rectangle-five = told-five w job change r
 
-  pub thirteen-exact : (rectangleCall w job change r .told .number ≡ 13) ↔ (Ready w job × (outOfRange r ≡ false) × Misshapen r)
+  pub thirteen-exact : (rectangleCall w job change r .told .number ≡ 13) ↔ (Serves w job × (outOfRange r ≡ false) × Misshapen r)
   thirteen-exact = told-thirteen w job change r
 
   -- then 6, for the first held tile in the order of the list, with the job of the first entry that holds it
   pub rectangle-held-first : (holder : ℕ)
       → (rectangleCall w job change r .told ≡ record { number = 6; answer = 0; holder = holder })
-      ↔ (Ready w job × Shaped r × FirstHeld (ruledBy w) (state w .book) job (procedureFor change) (keys (listed r)) holder)
+      ↔ (Serves w job × Shaped r × FirstHeld (w .session .rule) (state w .book) job (procedureFor change) (keys (listed r)) holder)
   rectangle-held-first holder = told-held w job change r holder
 
-  module _ (full : length (w .session .marks) ≡ 64) where
+  module _ (full : length (w .session .marks) ≡ jobCount) where
     -- then 7, 8 or 9, lowest first, exactly when the list taken tile after tile would run out of that room, each room judged alone
-    pub rectangle-room : Ready w job → Shaped r → All (λ k. heldBy (ruledBy w) (state w .book) job (procedureFor change) k ≡ none) (keys (listed r)) →
+    pub rectangle-room : Serves w job → Shaped r → All (λ k. heldBy (w .session .rule) (state w .book) job (procedureFor change) k ≡ none) (keys (listed r)) →
         let p = procedureFor change in
         let ks = keys (listed r) in
-        let places = placesRunOut (ruledBy w) (length (w .tiles)) (state w .book) job p ks in
+        let places = placesRunOut (w .session .rule) (length (w .tiles)) (state w .book) job p ks in
         let slots = slotsRunOut (length (w .operations)) (state w .book) job p ks in
         let bytes = bytesRunOut (freeBytes w) (openMarks (w .session .marks)) ks in
         let told = rectangleCall w job change r .told .number in
@@ -110,7 +110,7 @@ module _ (w : World) (job : ℕ) (change : Change) (r : Rectangle) where
     pub rectangle-keeps : rectangleCall w job change r .told .number ≡ 0 → Keeps w (rectangleCall w job change r .after)
     rectangle-keeps ok =
         let s = done-shaped w job change r ok in
-        let sound = rectangle-ready w job change r ok .is-sound-there in
+        let sound = rectangle-serves w job change r ok .is-sound-there in
         subst (Keeps w) (sym (whole-leaves w job change r full s ok))
         (all-keep w w (callsOf job change r)
         (record { still-sound = sound; same-rule = refl; all-marks = full; same-tiles = refl; same-operations = refl; same-journal = refl })
@@ -130,10 +130,10 @@ written-out f = moves-written f
 
 -- so every demand holds of them: this one, that a journal cut anywhere, inside a rectangle too, replays to what the committed jobs did
 pub moves-replay-exact : {by : Rule} {tiles : List ℕ} {count : ℕ} {operations journal : List ℕ} {ms : Log Move} {w : World}
-    → FromMoves by tiles count operations journal ms w → (n : ℕ) (operations′ : List ℕ) → length operations′ ≡ length operations
-    → (rs : List Record) (end : ℕ) → Reads (take n (usedJournal w)) 0 rs end → Stops (readAt (take n (usedJournal w)) end)
-    → RebuildsAlone (take n (usedJournal w)) tiles count operations′ rs end
-moves-replay-exact f n operations′ same rs end reads stops = replay-exact (written-out f) n operations′ same rs end reads stops
+    → FromMoves by tiles count operations journal ms w → (n : ℕ) (operations′ : List ℕ) → length operations′ ≡ length operations →
+    let h = history (written ms) in
+    RebuildsAlone (take n (usedJournal w)) tiles count operations′ (records (take count tiles) (upto by n h)) (extentIn by n h)
+moves-replay-exact f n operations′ same = replay-exact (written-out f) n operations′ same
 
 -- BY THE FIRST RULE
 -- a rectangle of an open job, that 5 and 13 do not refuse, after the calls cs

@@ -7,9 +7,8 @@ use Prim.Native.Nat.{_≤_, ℕ}
 use native.Mathlib.Omega.{arith}
 use lib.Dec.{eqb}
 use lib.ListN.{length}
-use Rattle.strict.specs.Book.{Book, bookAfter, heldBy, needsPlace, recover, spokenFor}
+use Rattle.strict.specs.Book.{Book, bookAfter, heldBy, needsPlace, oldestFirst, recover, spokenFor}
 use Rattle.strict.specs.Histories.{Event, kept, openJob, operation}
-use Rattle.strict.specs.Laws.Ending.{oldestFirst}
 use Rattle.strict.specs.Operations.{Op, begun, undo}
 use Rattle.strict.specs.Strict.{Log, SameAnswers, Strict, _▷_, empty, inGroups, run, without}
 use Rattle.strict.specs.declared.Procedure.the-variants.{Del, Ins, Mem}

@@ -8,27 +8,27 @@ use Prim.Native.Nat.{_<_, _≤_, ℕ}
 use native.Mathlib.Nat.{le-trans}
 use lib.Dec.{eqb}
 use lib.ListN.{length}
-use Rattle.strict.specs.Book.{Admitted, Book, CountedTiles, Roomy, bookAfter, heldBy, recover, spokenFor, step, sweep}
+use Rattle.strict.specs.Book.{Admitted, Book, CountedTiles, LeftCommitted, Roomy, Unheld, bookAfter, heldBy, oldestFirst, recover, spokenFor, step, sweep}
 use Rattle.strict.specs.Choices.{Choice, StrictLists}
 use Rattle.strict.specs.Commutativity.{Commutes, FirstHolder, commutes, holder}
 use Rattle.strict.specs.Histories.{Event, abort, kept, opened, operation, strike, unfinished}
 use Rattle.strict.specs.Laws.Counted.{counted-tiles}
-use Rattle.strict.specs.Laws.Ending.{oldestFirst, recover-either-way}
+use Rattle.strict.specs.Laws.Ending.{recover-either-way}
 use Rattle.strict.specs.Laws.Exactness.{held-exactly}
 use Rattle.strict.specs.Laws.Following.{follows, follows-strict, same-book}
 use Rattle.strict.specs.Laws.Holding.{holder-first}
 use Rattle.strict.specs.Laws.Listwise.{to-lists, to-places}
 use Rattle.strict.specs.Laws.Room.{room-enough, room-exactly, roomy-fits}
-use Rattle.strict.specs.Laws.Soundness.{Unheld, book-sound, step-sound, wider}
-use Rattle.strict.specs.Laws.Sweeping.{Left, sweep-leaves}
+use Rattle.strict.specs.Laws.Soundness.{book-sound, step-sound, wider}
+use Rattle.strict.specs.Laws.Sweeping.{sweep-leaves}
 use Rattle.strict.specs.Laws.Table.{definition-2}
 use Rattle.strict.specs.Operations.{Op, Step, kind}
 use Rattle.strict.specs.Sound.{SoundTable}
 use Rattle.strict.specs.Strict.{Log, Strict, _▷_, inGroups, run, without}
 use Rattle.strict.specs.Tiles.{Ascending}
 use Rattle.strict.specs.declared.Procedure.{Procedure}
-use Rattle.strict.specs.declared.Rule.{Rule}
 use Rattle.strict.specs.declared.Rule.the-variants.{Alone, Together}
+use Rattle.strict.specs.declared.Rule.{Rule}
 
 -- the six by five table is Definition 2 of the report, at each of its thirty entries
 pub table-exact : (p : Procedure) (found : Bool) (k : ℕ) (r : Step) (i : ℕ) → (commutes (kind p found) r (eqb k i) ≡ true) ↔ Commutes p found k r i
@@ -77,7 +77,7 @@ module _ (r : Rule) (s : List ℕ) (h : Log Event) (ascending : Ascending s) (ad
   abort-leaves j is-open = follows r s (h ▷ abort j) ascending (admitted, is-open) .tiles-run
 
   -- ending all open jobs by abort leaves the committed operations alone, with the answers that they had
-  pub sweep-leaves-committed : Left (bookAfter s (sweep 64 h)) s (kept s h)
+  pub sweep-leaves-committed : LeftCommitted (bookAfter s (sweep 64 h)) s (kept s h)
   sweep-leaves-committed = sweep-leaves r s h ascending admitted
 
   -- whatever groups are dropped, the tiles left are no more than the places spoken for

@@ -7,12 +7,11 @@ use Prim.Native.Nat.{_*_, _+_, suc, ℕ}
 use native.Mathlib.Omega.{arith}
 use lib.ListN.{drop, getD, length, length-append, length-map, take}
 use lib.Seq.{getD-set-other, length-take-le, sets-eq}
-use Rattle.lists.specs.Lists.{All, sets-sets}
+use Rattle.lists.specs.Lists.{All, padded, sets-sets}
 use Rattle.strict.specs.Histories.{abort, commit}
 use Rattle.service.specs.Admission.{State, isOpen}
-use Rattle.service.specs.Calls.{carried, padded, stored}
+use Rattle.service.specs.Calls.{carried, stored}
 use Rattle.service.specs.Claims.{Keeps}
-use Rattle.service.specs.Demands.{accepted-keeps, ends-accepted}
 use Rattle.service.specs.Entry.{entryOf, opIn}
 use Rattle.service.specs.History.{call, event}
 use Rattle.service.specs.Journal.{encode, recordOf}
@@ -22,6 +21,7 @@ use Rattle.service.specs.Laws.Soundness.{sound-is}
 use Rattle.service.specs.Laws.Standing.{Stands, stands-perform}
 use Rattle.service.specs.Laws.Storing.{open-small, padded-zeros, places-stored, slots-stored}
 use Rattle.service.specs.Sound.{Tabled, soundB}
+use Rattle.service.specs.Theorems.{accepted-keeps, ends-accepted}
 use Rattle.service.specs.Told.{Told, bare}
 use Rattle.service.specs.World.{World, state, usedJournal, usedOperations, usedTiles, world}
 use Rattle.ends.specs.Ends.{AllDone, End, Group, Reordered, after, behind, cancels, endRecords, ending, first, keeps, nothing, swapped, then, whose}

@@ -5,13 +5,13 @@ use native.Mathlib.Omega.{arith}
 use lib.ListN.{length}
 use borrow.Author.Needs.{needs}
 use denote.Ref.{now}
-use Rattle.admission.specs.Laws.{operations-count, spoken-for, tile-table}
-use Rattle.service.specs.World.{World, state, world}
-use Rattle.rectangles.specs.Rectangles.{ruledBy}
 use Rattle.strict.specs.Book.{spokenFor}
+use Rattle.service.specs.World.{World, state, world}
+use Rattle.admission.specs.Laws.{operations-count, spoken-for, tile-table}
+use Rattle.rectangles.specs.Rectangles.{ruledBy}
+use Rattle.placing.specs.Laws.Carrying.{no-bytes, no-places, no-slots, room-enough}
 use Rattle.placing.proofs.lacking.Statement.{statement}
 use Rattle.placing.proofs.lacking.Tie as tie
-use Rattle.placing.specs.Laws.Carrying.{no-bytes, no-places, no-slots, room-enough}
 
 -- what the function was given
 abbrev given : tie.After-count-besides → World
@@ -52,10 +52,10 @@ add-if1 c = let k = known c in omega arith
 add-if1-2 : tie.Need-add-if1-2
 add-if1-2 c = let k = known c in omega arith
 
-short : (c : tie.Then1) → let w = given (c .before) in length (w .tiles) < spokenFor (ruledBy w) (state w .book) + c .before .before .before .before .before .args .need
+short : (c : tie.Then1) → let w = given (c .before) in length (w .tiles) < spokenFor (w .session .rule) (state w .book) + c .before .before .before .before .before .args .need
 short c = let k = known (c .before) in omega arith
 
-enough : (c : tie.Else1) → let w = given (c .before) in spokenFor (ruledBy w) (state w .book) + c .before .before .before .before .before .args .need ≤ length (w .tiles)
+enough : (c : tie.Else1) → let w = given (c .before) in spokenFor (w .session .rule) (state w .book) + c .before .before .before .before .before .args .need ≤ length (w .tiles)
 enough c = let k = known (c .before) in omega arith
 
 returns : tie.Need-returns

@@ -9,14 +9,15 @@ use borrow.Author.Tests.{eqb-true, le-ltb, ltb-false, not-false}
 use Rattle.lists.specs.Lists.{All}
 use Rattle.strict.specs.declared.Procedure.{Procedure}
 use Rattle.service.specs.Calls.{endRefusals}
+use Rattle.service.specs.Claims.{Serves}
 use Rattle.service.specs.History.{committing}
-use Rattle.service.specs.Laws.Accepting.{decided-done, numbered}
-use Rattle.service.specs.Laws.Standing.{unrefused}
+use Rattle.service.specs.Laws.Accepting.{numbered}
+use Rattle.service.specs.Laws.Telling.{decided-done, unrefused}
 use Rattle.service.specs.Tile.{isKey}
 use Rattle.service.specs.Told.{Refusal, Told, bare, decided, done, refuse}
 use Rattle.service.specs.World.{Reported, World}
 use Rattle.decisions.specs.Laws.{decided-append, gate-refuses}
-use Rattle.rectangles.specs.Claims.{Apart, Ready, Shaped}
+use Rattle.rectangles.specs.Claims.{Apart, Shaped}
 use Rattle.rectangles.specs.Laws.Tiles.{all-apart}
 use Rattle.rectangles.specs.Rectangles.{carriedAll, keys, listRefusals, listed, misshapen, outOfRange, procedureFor, rectangleCall, rectangleRefusals}
 use Rattle.rectangles.specs.declared.Change.{Change}
@@ -38,7 +39,7 @@ asks-carries w job r corner height n a l fits is =
 
 -- THE GATE: 1, 2 and 3
 module _ (w : World) (job : ℕ) (t : Told) (gate : t ≡ decided (endRefusals w job) (done false)) where
-  pub gate-ready : eqb (t .number) 0 ≡ true → Ready w job
+  pub gate-ready : eqb (t .number) 0 ≡ true → Serves w job
   gate-ready zero =
       let h = unrefused (endRefusals w job)
       (decided-done (endRefusals w job) (done false) (numbered w (committing job)) (ap (λ (x : Told). x .number) (sym gate) ∙ eqb-true (t .number) 0 zero)) in
@@ -67,7 +68,7 @@ module _ (w : World) (job : ℕ) (change : Change) (r : Rectangle) where
       ∙ sym (decided-append (endRefusals w job) later (bare 0)) in
       ap {B = Reported} (λ b. record { told = t; after = cond b (carriedAll w job p ks) w }) (sym f) ∙ ap (listAfter w job p ks) whole ∙ sym call-is
 
-  module _ (ready : Ready w job) where
+  module _ (ready : Serves w job) where
     past-gate : decided (rectangleRefusals w job p r) (bare 0) ≡ decided later (bare 0)
     past-gate = rw (ready .is-sound-there, le-ltb 63 job (ready .small), ready .is-open)
 

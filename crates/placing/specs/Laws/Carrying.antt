@@ -12,24 +12,23 @@ use Rattle.lists.specs.Lists.{All}
 use Rattle.strict.specs.Book.{spokenFor}
 use Rattle.strict.specs.declared.Procedure.{Procedure}
 use Rattle.service.specs.Admission.{openMarks}
-use Rattle.service.specs.Laws.Accepting.{Numbered, decided-done, held-numbered}
-use Rattle.service.specs.Laws.Standing.{not-held, unrefused}
+use Rattle.service.specs.Claims.{Serves}
+use Rattle.service.specs.Laws.Telling.{Numbered, decided-done, held-numbered, not-held, unrefused}
 use Rattle.service.specs.Told.{Told, bare, decided}
 use Rattle.service.specs.World.{Reported, World, freeBytes, state}
-use Rattle.rectangles.specs.Claims.{Ready}
 use Rattle.rectangles.specs.Fitting.{Ahead, Fits}
 use Rattle.rectangles.specs.Laws.Fitting.{ahead-start}
-use Rattle.rectangles.specs.Rectangles.{carriedAll, firstHeld, listRefusals, ruledBy}
+use Rattle.rectangles.specs.Rectangles.{carriedAll, firstHeld, listRefusals}
 use Rattle.placing.specs.Laws.Looking.{Finds, needed-few}
 use Rattle.placing.specs.Passes.{Carries, listCall, roomFor}
 use Rattle.placing.specs.declared.Found.the-variants as found
 
 -- THE ROOM: 7, 8 and 9
 module _ (w : World) (need n : ℕ) where
-  pub no-places : length (w .tiles) < spokenFor (ruledBy w) (state w .book) + need → bare 7 ≡ decided (roomFor w need n) (bare 0)
+  pub no-places : length (w .tiles) < spokenFor (w .session .rule) (state w .book) + need → bare 7 ≡ decided (roomFor w need n) (bare 0)
   no-places h = rw (lt-ltb _ _ h)
 
-  module _ (places : spokenFor (ruledBy w) (state w .book) + need ≤ length (w .tiles)) where
+  module _ (places : spokenFor (w .session .rule) (state w .book) + need ≤ length (w .tiles)) where
     pub no-slots : length (w .operations) < length (state w .book .table) + n → bare 8 ≡ decided (roomFor w need n) (bare 0)
     no-slots h = rw (le-ltb _ _ places, lt-ltb _ _ h)
 
@@ -45,13 +44,13 @@ module _ (w : World) (job : ℕ) (p : Procedure) (l : List ℕ) (n : ℕ) (fits 
   abbrev ks : List ℕ
   ks = take n l
 
-  pub held-told : (by : ℕ) → Finds (ruledBy w) (state w .book) job p ks (found.Held by)
+  pub held-told : (by : ℕ) → Finds (w .session .rule) (state w .book) job p ks (found.Held by)
       → record { number = 6; answer = 0; holder = by } ≡ decided (listRefusals w job p ks) (bare 0)
   held-told by h = rw h
 
-  module _ (need : ℕ) (h : Finds (ruledBy w) (state w .book) job p ks (found.Needs need)) where
+  module _ (need : ℕ) (h : Finds (w .session .rule) (state w .book) job p ks (found.Needs need)) where
     pub need-few : n ≤ 256 → need ≤ 256
-    need-few few = let a = needed-few (ruledBy w) (state w .book) job p ks in let b = h .1 in let c = length-take-le n l fits in omega arith
+    need-few few = let a = needed-few (w .session .rule) (state w .book) job p ks in let b = h .1 in let c = length-take-le n l fits in omega arith
 
     pub room-told : (t : Told) → t ≡ decided (roomFor w need n) (bare 0) → t ≡ decided (listRefusals w job p ks) (bare 0)
     room-told t e =
@@ -74,15 +73,15 @@ module _ (w : World) (job : ℕ) (p : Procedure) (ks : List ℕ) (t : Told) (sam
     list-done v is = ap {B = Reported} (λ x. record { told = t; after = x }) is ∙ list-reports true zero
 
     list-numbered : All Numbered (listRefusals w job p ks)
-    list-numbered = (held-numbered (firstHeld (ruledBy w) (state w .book) job p ks), (refl, (refl, (refl, tt))))
+    list-numbered = (held-numbered (firstHeld (w .session .rule) (state w .book) job p ks), (refl, (refl, (refl, tt))))
 
-    list-fits : Ready w job → Fits w job p ks
+    list-fits : Serves w job → Fits w job p ks
     list-fits ready =
         let h = unrefused (listRefusals w job p ks)
         (decided-done (listRefusals w job p ks) (bare 0) list-numbered (ap (λ (x : Told). x .number) (sym same) ∙ eqb-true (t .number) 0 zero)) in
         record {
           ready = ready;
-          unheld = not-held (firstHeld (ruledBy w) (state w .book) job p ks) (h .0);
+          unheld = not-held (firstHeld (w .session .rule) (state w .book) job p ks) (h .0);
           places = ltb-false _ _ (h .1 .0);
           slots = ltb-false _ _ (h .1 .1 .0);
           bytes = ltb-false _ _ (h .1 .1 .1 .0);

@@ -19,23 +19,23 @@ use Rattle.strict.specs.Strict.{Log, Strict, run}
 use Rattle.strict.specs.Theorems.{room-is-exact}
 use Rattle.strict.specs.Tiles.{Ascending}
 use Rattle.strict.specs.declared.Procedure.{Procedure}
-use Rattle.strict.specs.declared.Rule.{Rule}
 use Rattle.strict.specs.declared.Rule.the-variants.{Alone}
+use Rattle.strict.specs.declared.Rule.{Rule}
 use Rattle.service.specs.Admission.{openMarks}
-use Rattle.service.specs.Claims.{Reached}
+use Rattle.service.specs.Claims.{Reached, Serves}
 use Rattle.service.specs.Demands.{all-marks, reached}
 use Rattle.service.specs.History.{Call, From, history}
 use Rattle.service.specs.Laws.Performing.{arrived}
 use Rattle.service.specs.Laws.Soundness.{sound-is}
 use Rattle.service.specs.World.{World, freeBytes, state}
 use Rattle.service.specs.declared.Address.{Address}
-use Rattle.rectangles.specs.Claims.{Ready, Shaped, callsOf, followed, operations}
+use Rattle.rectangles.specs.Claims.{Shaped, callsOf, followed, operations}
 use Rattle.rectangles.specs.Laws.Histories.{all-admitted, free-strict, spoken-all, withAll}
 use Rattle.rectangles.specs.Laws.Judging.{held-none, none-held, told-room, told-six}
 use Rattle.rectangles.specs.Laws.Running.{places-run-out}
 use Rattle.rectangles.specs.Laws.Tiles.{all-apart}
 use Rattle.rectangles.specs.Laws.Whole.{fits-passed, passed-fits}
-use Rattle.rectangles.specs.Rectangles.{firstHeld, keys, listed, needed, procedureFor, rectangleCall, ruledBy}
+use Rattle.rectangles.specs.Rectangles.{firstHeld, keys, listed, needed, procedureFor, rectangleCall}
 use Rattle.rectangles.specs.declared.Change.{Change}
 use Rattle.rectangles.specs.declared.Rectangle.{Rectangle}
 
@@ -60,14 +60,14 @@ module _ {tiles : List ℕ} {count : ℕ} {lent journal : List ℕ} {cs : Log Ca
   there : Reached Alone (take count tiles) (history cs) w
   there = reached from
 
-  by-alone : ruledBy w ≡ Alone
+  by-alone : w .session .rule ≡ Alone
   by-alone = there .by-rule
 
   -- what is said of the session's book by its rule, said of the history's by the first, and back
-  of-history : (P : Rule → Book → Type 0) → P (ruledBy w) (state w .book) → P Alone (bookAfter s h)
+  of-history : (P : Rule → Book → Type 0) → P (w .session .rule) (state w .book) → P Alone (bookAfter s h)
   of-history P x = subst (P Alone) (there .book-there) (subst (λ b. P b (state w .book)) by-alone x)
 
-  of-session : (P : Rule → Book → Type 0) → P Alone (bookAfter s h) → P (ruledBy w) (state w .book)
+  of-session : (P : Rule → Book → Type 0) → P Alone (bookAfter s h) → P (w .session .rule) (state w .book)
   of-session P x = subst (λ b. P b (state w .book)) (sym by-alone) (subst (P Alone) (sym (there .book-there)) x)
 
   abbrev Unheld : Rule → Book → Type 0
@@ -76,7 +76,7 @@ module _ {tiles : List ℕ} {count : ℕ} {lent journal : List ℕ} {cs : Log Ca
   asc : Ascending (take count tiles)
   asc = arrived from .start-stands .ascending
 
-  ready : Ready w job
+  ready : Serves w job
   ready = let l = few-jobs Alone s h (there .admitted) job is-open in record { is-sound-there = there .sound; small = omega arith; is-open = there .open-jobs job ∙ is-open }
 
   abbrev added : Log Op
@@ -85,13 +85,13 @@ module _ {tiles : List ℕ} {count : ℕ} {lent journal : List ℕ} {cs : Log Ca
   abbrev N : ℕ
   N = length (w .tiles)
 
-  free-iff : (firstHeld (ruledBy w) (state w .book) job p ks ≡ none) ↔ Strict Alone s added
+  free-iff : (firstHeld (w .session .rule) (state w .book) job p ks ≡ none) ↔ Strict Alone s added
   free-iff =
       let m = state w .book in
       let f = free-strict s job p asc h ks (there .admitted) is-open (all-apart r shaped) in
       let q : kept s (withAll h job p ks) ≡ added = ap (kept s) (history-followed job p cs (listed r)) in (
-        λ e. subst (Strict Alone s) q (f .0 (of-history Unheld (held-none (ruledBy w) m job p ks e))),
-        λ strict. none-held (ruledBy w) m job p ks (of-session Unheld (f .1 (subst (Strict Alone s) (sym q) strict))),
+        λ e. subst (Strict Alone s) q (f .0 (of-history Unheld (held-none (w .session .rule) m job p ks e))),
+        λ strict. none-held (w .session .rule) m job p ks (of-session Unheld (f .1 (subst (Strict Alone s) (sym q) strict))),
       )
 
   pub rectangle-held : (rectangleCall w job change r .told .number ≡ 6) ↔ (Strict Alone s added → ⊥)
@@ -101,16 +101,16 @@ module _ {tiles : List ℕ} {count : ℕ} {lent journal : List ℕ} {cs : Log Ca
 
   -- some choice leaves more than N tiles just where more than N places are spoken for
   room-iff : Strict Alone s added
-      → ((chosen : Log Op) × Choice added chosen × (N < length (run s chosen))) ↔ (N < spokenFor (ruledBy w) (state w .book) + needed (ruledBy w) (state w .book) job p ks)
+      → ((chosen : Log Op) × Choice added chosen × (N < length (run s chosen))) ↔ (N < spokenFor (w .session .rule) (state w .book) + needed (w .session .rule) (state w .book) job p ks)
   room-iff strict =
       let m = state w .book in
-      let free = held-none (ruledBy w) m job p ks (free-iff .1 strict) in
+      let free = held-none (w .session .rule) m job p ks (free-iff .1 strict) in
       let free-there = of-history Unheld free in
       let admitted = all-admitted s job p asc h ks (there .admitted) is-open (all-apart r shaped) free-there in
       let exact = room-is-exact s (withAll h job p ks) asc admitted N in
       let q : kept s (withAll h job p ks) ≡ added = ap (kept s) (history-followed job p cs (listed r)) in
       let up : Ascending (bookAfter s h .tiles) = subst (λ (x : Book). Ascending (x .tiles)) (there .book-there) (sound-is w (there .sound) .tables .ascending) in
-      let grown : spokenFor Alone (bookAfter s (withAll h job p ks)) ≡ spokenFor (ruledBy w) m + needed (ruledBy w) m job p ks =
+      let grown : spokenFor Alone (bookAfter s (withAll h job p ks)) ≡ spokenFor (w .session .rule) m + needed (w .session .rule) m job p ks =
       spoken-all s job p asc h ks (all-apart r shaped) up ∙ ap₂ (λ b (x : Book). spokenFor b x + needed b x job p ks) (sym by-alone) (sym (there .book-there)) in
       let e : ((chosen : Log Op) × Choice added chosen × (N < length (run s chosen))) ↔ (N < spokenFor Alone (bookAfter s (withAll h job p ks))) =
       subst (λ l. ((chosen : Log Op) × Choice l chosen × (N < length (run s chosen))) ↔ (N < spokenFor Alone (bookAfter s (withAll h job p ks)))) q exact in
@@ -120,29 +120,29 @@ module _ {tiles : List ℕ} {count : ℕ} {lent journal : List ℕ} {cs : Log Ca
       → (rectangleCall w job change r .told .number ≡ 7) ↔ ((chosen : Log Op) × Choice added chosen × (N < length (run s chosen)))
   rectangle-room-just strict =
       let m = state w .book in
-      let free = held-none (ruledBy w) m job p ks (free-iff .1 strict) in
+      let free = held-none (w .session .rule) m job p ks (free-iff .1 strict) in
       let room = told-room w job change r ready shaped free (all-marks from) .0 in
       let o = sound-is w (there .sound) in
-      let out = places-run-out (ruledBy w) job p N ks m (all-apart r shaped) (o .tables .ascending) (o .tables .room) in
+      let out = places-run-out (w .session .rule) job p N ks m (all-apart r shaped) (o .tables .ascending) (o .tables .room) in
       let iff = room-iff strict in (
         λ e. iff .1 (ltb-true _ _ (sym out ∙ room .0 e)),
         λ c. room .1 (out ∙ lt-ltb _ _ (iff .0 c)),
       )
 
   fits-iff : Strict Alone s added
-      → (spokenFor (ruledBy w) (state w .book) + needed (ruledBy w) (state w .book) job p ks ≤ N) ↔ ((chosen : Log Op) → Choice added chosen → length (run s chosen) ≤ N)
+      → (spokenFor (w .session .rule) (state w .book) + needed (w .session .rule) (state w .book) job p ks ≤ N) ↔ ((chosen : Log Op) → Choice added chosen → length (run s chosen) ≤ N)
   fits-iff strict = (
     λ l chosen c. go chosen c l (leb (length (run s chosen)) N) refl,
-    λ f. by f (leb (spokenFor (ruledBy w) (state w .book) + needed (ruledBy w) (state w .book) job p ks) N) refl,
+    λ f. by f (leb (spokenFor (w .session .rule) (state w .book) + needed (w .session .rule) (state w .book) job p ks) N) refl,
   )
     where
-      go : (chosen : Log Op) → Choice added chosen → spokenFor (ruledBy w) (state w .book) + needed (ruledBy w) (state w .book) job p ks ≤ N
+      go : (chosen : Log Op) → Choice added chosen → spokenFor (w .session .rule) (state w .book) + needed (w .session .rule) (state w .book) job p ks ≤ N
           → (b : Bool) → leb (length (run s chosen)) N ≡ b → length (run s chosen) ≤ N
       go chosen c l true q = leb-true _ _ q
       go chosen c l false q = let g = room-iff strict .0 (chosen, c, leb-false _ _ q) in absurd (omega arith)
 
       by : ((chosen : Log Op) → Choice added chosen → length (run s chosen) ≤ N)
-          → (b : Bool) → leb (spokenFor (ruledBy w) (state w .book) + needed (ruledBy w) (state w .book) job p ks) N ≡ b → spokenFor (ruledBy w) (state w .book) + needed (ruledBy w) (state w .book) job p ks ≤ N
+          → (b : Bool) → leb (spokenFor (w .session .rule) (state w .book) + needed (w .session .rule) (state w .book) job p ks) N ≡ b → spokenFor (w .session .rule) (state w .book) + needed (w .session .rule) (state w .book) job p ks ≤ N
       by f true q = leb-true _ _ q
       by f false q = let c = room-iff strict .1 (leb-false _ _ q) in let l = f (c .0) (c .1) in let g = c .2 in absurd (omega arith)
 

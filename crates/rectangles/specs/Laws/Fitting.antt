@@ -11,7 +11,7 @@ use lib.ListN.{getD, length, length-append}
 use lib.Seq.{length-sets, slice}
 use borrow.Author.Tests.{le-ltb, ltb-false, ne-eqb, not-false}
 use Rattle.lists.specs.Lists.{All, slice-end, slice-next}
-use Rattle.lists.specs.Truth.{both-false, oneIf}
+use Rattle.lists.specs.Truth.{oneIf}
 use Rattle.strict.specs.Book.{Book, heldBy, needsPlace, spokenFor, step}
 use Rattle.strict.specs.Histories.{operation}
 use Rattle.strict.specs.Laws.Room.{room-operation}
@@ -19,29 +19,26 @@ use Rattle.strict.specs.Operations.{begun}
 use Rattle.strict.specs.declared.Procedure.{Procedure}
 use Rattle.service.specs.Admission.{State, admission, answerTo, openMarks, refusals}
 use Rattle.service.specs.Calls.{carried, operationRefusals}
+use Rattle.service.specs.Claims.{Passes, Serves}
 use Rattle.service.specs.History.{Call, call, event, operating}
 use Rattle.service.specs.Journal.{encode, recordOf}
-use Rattle.service.specs.Laws.Accepting.{Passes, carried-places, carried-slots, carried-sound, carried-state, left-carried, none-told, passed, passes, record-size}
+use Rattle.service.specs.Laws.Accepting.{carried-places, carried-slots, carried-sound, carried-state, left-carried, none-told, passed, passes, record-size}
 use Rattle.service.specs.Laws.Keys.{key-valid}
 use Rattle.service.specs.Laws.Soundness.{is-sound, sound-is}
-use Rattle.service.specs.Laws.Standing.{not-held, unrefused}
 use Rattle.service.specs.Laws.Storing.{tabled-stands}
+use Rattle.service.specs.Laws.Telling.{none-applies, not-held, unrefused}
 use Rattle.service.specs.Tile.{isKey, keyOf, placedAt}
-use Rattle.service.specs.Told.{Refusal, Told, refuse, refuseHeld, refused}
+use Rattle.service.specs.Told.{Refusal, Told, refuse, refuseHeld}
 use Rattle.service.specs.World.{World, freeBytes, state}
 use Rattle.service.specs.declared.Address.{Address}
-use Rattle.rectangles.specs.Claims.{AllDone, Apart, Ready, leftBy, operations}
+use Rattle.rectangles.specs.Claims.{AllDone, Apart, leftBy, operations}
 use Rattle.rectangles.specs.Fitting.{Ahead, Fits, Placed}
 use Rattle.rectangles.specs.Laws.Apart.{first-held-same, needed-same}
-use Rattle.rectangles.specs.Rectangles.{carriedAll, firstHeld, firstOf, keyFor, keys, needed, ruledBy, unplaced}
+use Rattle.rectangles.specs.Rectangles.{carriedAll, firstHeld, firstOf, keyFor, keys, needed, unplaced}
 
 pub first-none : (o q : Option ℕ) → firstOf o q ≡ none → (o ≡ none) × (q ≡ none)
 first-none none q e = (refl, e)
 first-none (some j) q e = absurd (let z : _≡_ {A = ℕ} 0 1 = cc in omega arith)
-
-pub none-applies : (rs : List Refusal) → All (λ r. r .applies ≡ false) rs → refused rs ≡ false
-none-applies [] h = refl
-none-applies (r ∷ rs) h = both-false (h .0) (none-applies rs (h .1))
 
 -- a place for it, as the check has it
 room-free : (b : Bool) (places n : ℕ) → n + oneIf b ≤ places → b && eqb n places ≡ false
@@ -62,8 +59,8 @@ module _ (w : World) (job : ℕ) (p : Procedure) (a : Address) where
   pub first-done : (ks : List ℕ) → unplaced a ≡ false → Fits w job p (keyFor a ∷ ks) → call w one .told .number ≡ 0
   first-done ks placed f =
       let m = state w .book in
-      let h = first-none (heldBy (ruledBy w) m job p (keyFor a)) (firstHeld (ruledBy w) m job p ks) (f .unheld) .0 in
-      let room = room-free (needsPlace (ruledBy w) (m .table) (begun job p (keyFor a) (m .tiles))) (length (w .tiles)) (spokenFor (ruledBy w) m) (let x = f .places in omega arith) in
+      let h = first-none (heldBy (w .session .rule) m job p (keyFor a)) (firstHeld (w .session .rule) m job p ks) (f .unheld) .0 in
+      let room = room-free (needsPlace (w .session .rule) (m .table) (begun job p (keyFor a) (m .tiles))) (length (w .tiles)) (spokenFor (w .session .rule) m) (let x = f .places in omega arith) in
       let slot = ne-eqb (length (m .table)) (length (w .operations)) (λ e. let x = f .slots in omega arith) in
       let bytes = le-ltb (freeBytes w) (10 + 4 * openMarks (w .session .marks)) (let x = f .bytes in omega arith) in
       let last : All (λ r. r .applies ≡ false) (lastRefusals w job p a) = (ap (λ o. refuseHeld o .applies) h, (room, (slot, (bytes, tt)))) in
@@ -78,10 +75,10 @@ module _ (w : World) (job : ℕ) (p : Procedure) (k : ℕ) (full : length (w .se
   then = carried w (operation job p k)
 
   record Moves (ks : List ℕ) : Type 0 where
-    ready-before : Ready w job
-    ready-then : Ready then job
-    held-then : firstHeld (ruledBy then) (state then .book) job p ks ≡ firstHeld (ruledBy w) (state w .book) job p (k ∷ ks)
-    room-then : spokenFor (ruledBy then) (state then .book) + needed (ruledBy then) (state then .book) job p ks ≡ spokenFor (ruledBy w) (state w .book) + needed (ruledBy w) (state w .book) job p (k ∷ ks)
+    ready-before : Serves w job
+    ready-then : Serves then job
+    held-then : firstHeld (then .session .rule) (state then .book) job p ks ≡ firstHeld (w .session .rule) (state w .book) job p (k ∷ ks)
+    room-then : spokenFor (then .session .rule) (state then .book) + needed (then .session .rule) (state then .book) job p ks ≡ spokenFor (w .session .rule) (state w .book) + needed (w .session .rule) (state w .book) job p (k ∷ ks)
     table-then : length (state then .book .table) ≡ length (state w .book .table) + 1
     places-then : length (then .tiles) ≡ length (w .tiles)
     slots-then : length (then .operations) ≡ length (w .operations)
@@ -95,10 +92,10 @@ module _ (w : World) (job : ℕ) (p : Procedure) (k : ℕ) (full : length (w .se
       let n = step m e in
       let bytes = encode (recordOf e (answerTo (state w) e)) in
       let h = unrefused (refusals (length (w .tiles)) (length (w .operations)) (state w) e) (may .unrefused-by) in
-      let held : heldBy (ruledBy w) m job p k ≡ none = not-held (heldBy (ruledBy w) m job p k) (h .1 .0) in
+      let held : heldBy (w .session .rule) m job p k ≡ none = not-held (heldBy (w .session .rule) m job p k) (h .1 .0) in
       let book : state then .book ≡ n = ap (λ (s : State). s .book) (carried-state w e full may) in
-      let grown : spokenFor (ruledBy w) n ≡ spokenFor (ruledBy w) m + oneIf (needsPlace (ruledBy w) (m .table) (begun job p k (m .tiles))) = room-operation (ruledBy w) m job p k (may .sound-before .tables .ascending) in
-      let same : needed (ruledBy w) n job p ks ≡ needed (ruledBy w) m job p ks = needed-same (ruledBy w) m job p k ks apart in
+      let grown : spokenFor (w .session .rule) n ≡ spokenFor (w .session .rule) m + oneIf (needsPlace (w .session .rule) (m .table) (begun job p k (m .tiles))) = room-operation (w .session .rule) m job p k (may .sound-before .tables .ascending) in
+      let same : needed (w .session .rule) n job p ks ≡ needed (w .session .rule) m job p ks = needed-same (w .session .rule) m job p k ks apart in
       let long : length bytes ≡ 10 = record-size e (answerTo (state w) e) in
       let kept : length (then .journal) ≡ length (w .journal) = length-sets (w .journal) (w .session .journal) bytes in
       let fit = may .bytes-fit in
@@ -106,8 +103,8 @@ module _ (w : World) (job : ℕ) (p : Procedure) (k : ℕ) (full : length (w .se
       record {
         ready-before = record { is-sound-there = is-sound w (may .sound-before); small = may .named .0; is-open = is-open };
         ready-then = record { is-sound-there = is-sound then (carried-sound w e full may); small = may .named .0; is-open = is-open };
-        held-then = ap (λ x. firstHeld (ruledBy w) x job p ks) book ∙ first-held-same (ruledBy w) m job p k ks apart ∙ ap (λ o. firstOf o (firstHeld (ruledBy w) m job p ks)) (sym held);
-        room-then = ap (λ (x : Book). spokenFor (ruledBy w) x + needed (ruledBy w) x job p ks) book ∙ omega arith;
+        held-then = ap (λ x. firstHeld (w .session .rule) x job p ks) book ∙ first-held-same (w .session .rule) m job p k ks apart ∙ ap (λ o. firstOf o (firstHeld (w .session .rule) m job p ks)) (sym held);
+        room-then = ap (λ (x : Book). spokenFor (w .session .rule) x + needed (w .session .rule) x job p ks) book ∙ omega arith;
         table-then = ap (λ (x : Book). length (x .table)) book ∙ length-append (m .table) _;
         places-then = carried-places w e full may;
         slots-then = carried-slots w e full may;
@@ -115,7 +112,7 @@ module _ (w : World) (job : ℕ) (p : Procedure) (k : ℕ) (full : length (w .se
         bytes-then = omega arith;
       }
 
-  pub still-ready : Ready then job
+  pub still-ready : Serves then job
   still-ready = moves [] tt .ready-then
 
   pub fits-then : (ks : List ℕ) → All (λ i. k ≢ i) ks → Fits w job p (k ∷ ks) → Fits then job p ks
@@ -137,7 +134,7 @@ module _ (w : World) (job : ℕ) (p : Procedure) (k : ℕ) (full : length (w .se
 module _ (job : ℕ) (p : Procedure) where
   -- from the last to the first: what is left to do fits
   pub done-fits : (xs : List Address) (w : World) → Apart (keys xs) → length (w .session .marks) ≡ 64
-      → Ready w job → AllDone w (operations job p xs) → Fits w job p (keys xs)
+      → Serves w job → AllDone w (operations job p xs) → Fits w job p (keys xs)
   done-fits [] w apart full ready done =
       let o = sound-is w (ready .is-sound-there) in
       let s = tabled-stands w full (o .tables) in
@@ -169,7 +166,7 @@ module _ (job : ℕ) (p : Procedure) where
       )
 
 -- the first of a list that is done found the world ready
-pub done-ready : (w : World) (job : ℕ) (p : Procedure) (a : Address) → call w (operating job p a) .told .number ≡ 0 → Ready w job
+pub done-ready : (w : World) (job : ℕ) (p : Procedure) (a : Address) → call w (operating job p a) .told .number ≡ 0 → Serves w job
 done-ready w job p a ok =
     let h = passed w (operating job p a) ok in
     record { is-sound-there = not-false _ (h .0); small = ltb-false 63 job (h .1 .0); is-open = not-false _ (h .1 .1 .0) }

@@ -12,26 +12,29 @@ use lib.ListN.{length}
 use lib.Signed.{_<ℤ_, ltZ-yes}
 use borrow.Author.Tests.{eq-eqb, eqb-true, le-ltb, lt-ltb, ltb-false, ltb-true, not-false, not-true}
 use Rattle.lists.specs.Lists.{All}
-use Rattle.lists.specs.Truth.{both-false, never, or-left, or-right}
+use Rattle.lists.specs.Truth.{never}
 use Rattle.strict.specs.Book.{Book, heldBy}
 use Rattle.strict.specs.Operations.{begun}
 use Rattle.strict.specs.Theorems.{first-holder}
 use Rattle.strict.specs.declared.Procedure.{Procedure}
 use Rattle.strict.specs.declared.Rule.{Rule}
 use Rattle.service.specs.Admission.{isOpen, openMarks}
+use Rattle.service.specs.Calls.{endRefusals}
+use Rattle.service.specs.Claims.{Serves}
+use Rattle.service.specs.Laws.Accepting.{serves-is}
 use Rattle.service.specs.Laws.Soundness.{sound-is}
-use Rattle.service.specs.Laws.Standing.{unrefused}
 use Rattle.service.specs.Laws.Storing.{tabled-stands}
+use Rattle.service.specs.Laws.Telling.{Others, Passed, found-is, held-six, holder-told, told-exactly, told-whole}
+use Rattle.service.specs.Limits.{lastJob}
 use Rattle.service.specs.Sound.{soundB}
-use Rattle.service.specs.Told.{Refusal, Told, bare, decided, refuse, refuseHeld, refused}
+use Rattle.service.specs.Told.{Refusal, Told, bare, decided, refuse, refuseHeld}
 use Rattle.service.specs.World.{World, freeBytes, state}
-use Rattle.rectangles.specs.Claims.{FirstHeld, Misshapen, Ready, Shaped, bytesRunOut, placesRunOut, slotsRunOut}
-use Rattle.rectangles.specs.Laws.Fitting.{first-none, none-applies}
+use Rattle.rectangles.specs.Claims.{FirstHeld, Misshapen, Shaped, bytesRunOut, placesRunOut, slotsRunOut}
+use Rattle.rectangles.specs.Laws.Fitting.{first-none}
 use Rattle.rectangles.specs.Laws.Running.{bytes-run-out, places-run-out, slots-run-out}
-use Rattle.rectangles.specs.Laws.Telling.{Others, told-exactly, told-whole}
 use Rattle.rectangles.specs.Laws.Tiles.{all-apart}
 use Rattle.rectangles.specs.Laws.Whole.{rectangle-told}
-use Rattle.rectangles.specs.Rectangles.{area, fewBytes, fewPlaces, fewSlots, firstHeld, firstOf, height, keys, listRefusals, listed, misshapen, outOfRange, procedureFor, rectangleCall, roomRefusals, ruledBy, span, width}
+use Rattle.rectangles.specs.Rectangles.{area, fewBytes, fewPlaces, fewSlots, firstHeld, firstOf, height, keys, listRefusals, listed, misshapen, outOfRange, procedureFor, rectangleCall, roomRefusals, span, width}
 use Rattle.rectangles.specs.declared.Change.{Change}
 use Rattle.rectangles.specs.declared.Rectangle.{Rectangle}
 
@@ -103,24 +106,10 @@ misshapen-is r =
     empty-is a b = (λ e. no-span a b .0 (eqb-true _ _ e), λ h. eq-eqb _ _ (no-span a b .1 h))
 
 -- THE NUMBERS
-held-six : (o : Option ℕ) → refuseHeld o .says .number ≡ 6
-held-six none = refl
-held-six (some j) = refl
-
-found-is : (o : Option ℕ) → (refuseHeld o .applies ≡ true) ↔ (o ≢ none)
-found-is none = (λ e. never (sym e), λ f. absurd (f refl))
-found-is (some j) = (λ e q. (let z : _≡_ {A = ℕ} 0 1 = cc in omega arith), λ f. refl)
-
-holder-told : (o : Option ℕ) (i : ℕ) → refuseHeld o .applies ≡ true → refuseHeld o .says ≡ record { number = 6; answer = 0; holder = i } → o ≡ some i
-holder-told none i a e = never (sym a)
-holder-told (some j) i a e = ap (λ (t : Told). some (t .holder)) e
-
 -- refusals that do not apply are passed by
-passed-by : (xs ys : List Refusal) (t : Told) → refused xs ≡ false → decided (xs ++ ys) t .number ≡ decided ys t .number
-passed-by [] ys t e = refl
-passed-by (x ∷ xs) ys t e =
-    let h = or-left (x .applies) (refused xs) e in
-    rw h (passed-by xs ys t (or-right (x .applies) (refused xs) e))
+passed-by : (xs ys : List Refusal) (t : Told) → Passed xs → decided (xs ++ ys) t .number ≡ decided ys t .number
+passed-by [] ys t h = refl
+passed-by (x ∷ xs) ys t h = rw (h .0) (passed-by xs ys t (h .1))
 
 -- which of three is the first
 unfoldable RoomTold : Bool → Bool → Bool → ℕ → Type 0
@@ -132,12 +121,9 @@ room-first a b c =
     let seven = told-exactly 7 [] (refuse 7 a) (refuse 8 b ∷ refuse 9 c ∷ []) (bare 0) tt refl (omega arith, (omega arith, tt)) (omega arith) in
     let eight = told-exactly 8 (refuse 7 a ∷ []) (refuse 8 b) (refuse 9 c ∷ []) (bare 0) (omega arith, tt) refl (omega arith, tt) (omega arith) in
     let nine = told-exactly 9 (refuse 7 a ∷ refuse 8 b ∷ []) (refuse 9 c) [] (bare 0) (omega arith, (omega arith, tt)) refl tt (omega arith) in (
-      (λ e. seven .0 e .1, λ e. seven .1 (refl, e)),
-      (λ e. let x = eight .0 e in (or-left a false (x .0), x .1), λ x. eight .1 (both-false (x .0) refl, x .1)),
-      (
-        λ e. let x = nine .0 e in (or-left a _ (x .0), or-left b false (or-right a _ (x .0)), x .1),
-        λ x. nine .1 (both-false (x .0) (both-false (x .1) refl), x .2),
-      ),
+      (λ e. seven .0 e .1, λ e. seven .1 (tt, e)),
+      (λ e. let x = eight .0 e in (x .0 .0, x .1), λ x. eight .1 ((x .0, tt), x .1)),
+      (λ e. let x = nine .0 e in (x .0 .0, x .0 .1 .0, x .1), λ x. nine .1 ((x .0, (x .1, tt)), x .2)),
     )
 
 module _ (w : World) (job : ℕ) (change : Change) (r : Rectangle) where
@@ -148,14 +134,14 @@ module _ (w : World) (job : ℕ) (change : Change) (r : Rectangle) where
   ks = keys (listed r)
 
   abbrev rule : Rule
-  rule = ruledBy w
+  rule = w .session .rule
 
   abbrev told : Told
   told = rectangleCall w job change r .told
 
   -- 1, 2, 3; and then 5 and 13
   abbrev three : List Refusal
-  three = refuse 1 (not (soundB w)) ∷ refuse 2 (ltb 63 job) ∷ refuse 3 (not (isOpen (state w) job)) ∷ []
+  three = endRefusals w job
 
   abbrev four : List Refusal
   four = three ++ (refuse 5 (outOfRange r) ∷ [])
@@ -163,12 +149,10 @@ module _ (w : World) (job : ℕ) (change : Change) (r : Rectangle) where
   abbrev five : List Refusal
   five = four ++ (refuse 13 (misshapen r) ∷ [])
 
-  ready-is : (xs : List Refusal) → (refused (three ++ xs) ≡ false) ↔ (Ready w job × (refused xs ≡ false))
-  ready-is xs = (
-    λ e. let h = unrefused (three ++ xs) e in
-        (record { is-sound-there = not-false _ (h .0); small = ltb-false 63 job (h .1 .0); is-open = not-false _ (h .1 .1 .0) }, none-applies xs (h .1 .1 .1)),
-    λ c. none-applies (three ++ xs)
-        (ap not (c .0 .is-sound-there), (le-ltb 63 job (c .0 .small), (ap not (c .0 .is-open), unrefused xs (c .1)))),
+  serves-then : (xs : List Refusal) → Passed (three ++ xs) ↔ (Serves w job × Passed xs)
+  serves-then xs = let v = serves-is w job in (
+    λ h. (v .0 (h .0, (h .1 .0, (h .1 .1 .0, tt))), h .1 .1 .1),
+    λ c. let s = v .1 (c .0) in (s .0, (s .1 .0, (s .1 .1 .0, c .1))),
   )
 
   last-others : (n : ℕ) → 6 ≢ n → 7 ≢ n → 8 ≢ n → 9 ≢ n → Others n (listRefusals w job p ks)
@@ -176,11 +160,11 @@ module _ (w : World) (job : ℕ) (change : Change) (r : Rectangle) where
 
   -- 1, 2 and 3
   pub told-first : ((told .number ≡ 1) ↔ (soundB w ≡ false))
-      × ((told .number ≡ 2) ↔ ((soundB w ≡ true) × (63 < job)))
-      × ((told .number ≡ 3) ↔ ((soundB w ≡ true) × (job ≤ 63) × (isOpen (state w) job ≡ false)))
+      × ((told .number ≡ 2) ↔ ((soundB w ≡ true) × (lastJob < job)))
+      × ((told .number ≡ 3) ↔ ((soundB w ≡ true) × (job ≤ lastJob) × (isOpen (state w) job ≡ false)))
   told-first =
       let a = refuse 1 (not (soundB w)) in
-      let b = refuse 2 (ltb 63 job) in
+      let b = refuse 2 (ltb lastJob job) in
       let c = refuse 3 (not (isOpen (state w) job)) in
       let later = refuse 5 (outOfRange r) ∷ refuse 13 (misshapen r) ∷ listRefusals w job p ks in
       let one = told-exactly 1 [] a (b ∷ c ∷ later) (bare 0) tt refl
@@ -190,51 +174,46 @@ module _ (w : World) (job : ℕ) (change : Change) (r : Rectangle) where
       let three = told-exactly 3 (a ∷ b ∷ []) c later (bare 0) (omega arith, (omega arith, tt)) refl
       (omega arith, (omega arith, last-others 3 (omega arith) (omega arith) (omega arith) (omega arith))) (omega arith) in
       let t = ap (λ (t : Told). t .number) (rectangle-told w job change r) in (
-        (λ e. not-true _ (one .0 (sym t ∙ e) .1), λ e. t ∙ one .1 (refl, ap not e)),
+        (λ e. not-true _ (one .0 (sym t ∙ e) .1), λ e. t ∙ one .1 (tt, ap not e)),
         (
-          λ e. let x = two .0 (sym t ∙ e) in (not-false _ (or-left (not (soundB w)) false (x .0)), ltb-true 63 job (x .1)),
-          λ x. t ∙ two .1 (both-false (ap not (x .0)) refl, lt-ltb 63 job (x .1)),
+          λ e. let x = two .0 (sym t ∙ e) in (not-false _ (x .0 .0), ltb-true lastJob job (x .1)),
+          λ x. t ∙ two .1 ((ap not (x .0), tt), lt-ltb lastJob job (x .1)),
         ),
         (
-          λ e. let x = three .0 (sym t ∙ e) in (
-            not-false _ (or-left (not (soundB w)) _ (x .0)),
-            ltb-false 63 job (or-left (ltb 63 job) false (or-right (not (soundB w)) _ (x .0))),
-            not-true _ (x .1),
-          ),
-          λ x. t ∙ three .1 (both-false (ap not (x .0)) (both-false (le-ltb 63 job (x .1)) refl), ap not (x .2)),
+          λ e. let x = three .0 (sym t ∙ e) in (not-false _ (x .0 .0), ltb-false lastJob job (x .0 .1 .0), not-true _ (x .1)),
+          λ x. t ∙ three .1 ((ap not (x .0), (le-ltb lastJob job (x .1), tt)), ap not (x .2)),
         ),
       )
 
-  pub told-five : (told .number ≡ 5) ↔ (Ready w job × (outOfRange r ≡ true))
+  pub told-five : (told .number ≡ 5) ↔ (Serves w job × (outOfRange r ≡ true))
   told-five =
       let x = told-exactly 5 three (refuse 5 (outOfRange r)) (refuse 13 (misshapen r) ∷ listRefusals w job p ks) (bare 0)
       (omega arith, (omega arith, (omega arith, tt))) refl (omega arith, last-others 5 (omega arith) (omega arith) (omega arith) (omega arith)) (omega arith) in
-      let y = ready-is [] in
+      let y = serves-then [] in
       let t = ap (λ (t : Told). t .number) (rectangle-told w job change r) in (
         λ e. let c = x .0 (sym t ∙ e) in (y .0 (c .0) .0, c .1),
-        λ c. t ∙ x .1 (y .1 (c .0, refl), c .1),
+        λ c. t ∙ x .1 (y .1 (c .0, tt), c .1),
       )
 
-  pub told-thirteen : (told .number ≡ 13) ↔ (Ready w job × (outOfRange r ≡ false) × Misshapen r)
+  pub told-thirteen : (told .number ≡ 13) ↔ (Serves w job × (outOfRange r ≡ false) × Misshapen r)
   told-thirteen =
       let x = told-exactly 13 four (refuse 13 (misshapen r)) (listRefusals w job p ks) (bare 0)
       (omega arith, (omega arith, (omega arith, (omega arith, tt)))) refl (last-others 13 (omega arith) (omega arith) (omega arith) (omega arith)) (omega arith) in
-      let y = ready-is (refuse 5 (outOfRange r) ∷ []) in
+      let y = serves-then (refuse 5 (outOfRange r) ∷ []) in
       let m = misshapen-is r in
       let t = ap (λ (t : Told). t .number) (rectangle-told w job change r) in (
-        λ e. let c = x .0 (sym t ∙ e) in let z = y .0 (c .0) in (z .0, or-left (outOfRange r) false (z .1), m .0 (c .1)),
-        λ c. t ∙ x .1 (y .1 (c .0, none-applies (refuse 5 (outOfRange r) ∷ []) (c .1, tt)), m .1 (c .2)),
+        λ e. let c = x .0 (sym t ∙ e) in let z = y .0 (c .0) in (z .0, z .1 .0, m .0 (c .1)),
+        λ c. t ∙ x .1 (y .1 (c .0, (c .1, tt)), m .1 (c .2)),
       )
 
-  shaped-is : (refused five ≡ false) ↔ (Ready w job × Shaped r)
+  shaped-is : Passed five ↔ (Serves w job × Shaped r)
   shaped-is =
-      let y = ready-is (refuse 5 (outOfRange r) ∷ refuse 13 (misshapen r) ∷ []) in (
-        λ e. let z = y .0 e in let h = unrefused (refuse 5 (outOfRange r) ∷ refuse 13 (misshapen r) ∷ []) (z .1) in
-            (z .0, record { in-range = h .0; well-formed = h .1 .0 }),
-        λ c. y .1 (c .0, none-applies (refuse 5 (outOfRange r) ∷ refuse 13 (misshapen r) ∷ []) (c .1 .in-range, (c .1 .well-formed, tt))),
+      let y = serves-then (refuse 5 (outOfRange r) ∷ refuse 13 (misshapen r) ∷ []) in (
+        λ e. let z = y .0 e in (z .0, record { in-range = z .1 .0; well-formed = z .1 .1 .0 }),
+        λ c. y .1 (c .0, (c .1 .in-range, (c .1 .well-formed, tt))),
       )
 
-  pub told-six : (told .number ≡ 6) ↔ (Ready w job × Shaped r × (firstHeld rule (state w .book) job p ks ≢ none))
+  pub told-six : (told .number ≡ 6) ↔ (Serves w job × Shaped r × (firstHeld rule (state w .book) job p ks ≢ none))
   told-six =
       let o = firstHeld rule (state w .book) job p ks in
       let x = told-exactly 6 five (refuseHeld o) (roomRefusals (fewPlaces w job p ks) (fewSlots w ks) (fewBytes w ks)) (bare 0)
@@ -245,7 +224,7 @@ module _ (w : World) (job : ℕ) (change : Change) (r : Rectangle) where
         λ c. t ∙ x .1 (shaped-is .1 (c .0, c .1), f .1 (c .2)),
       )
 
-  pub told-held : (i : ℕ) → (told ≡ record { number = 6; answer = 0; holder = i }) ↔ (Ready w job × Shaped r × FirstHeld rule (state w .book) job p ks i)
+  pub told-held : (i : ℕ) → (told ≡ record { number = 6; answer = 0; holder = i }) ↔ (Serves w job × Shaped r × FirstHeld rule (state w .book) job p ks i)
   told-held i =
       let m = state w .book in
       let o = firstHeld rule m job p ks in
@@ -262,7 +241,7 @@ module _ (w : World) (job : ℕ) (change : Change) (r : Rectangle) where
       )
 
   -- where no tile of the list is held, 7, 8 and 9 are what is left
-  module _ (ready : Ready w job) (shaped : Shaped r) (unheld : All (λ k. heldBy rule (state w .book) job p k ≡ none) ks) (full : length (w .session .marks) ≡ 64) where
+  module _ (ready : Serves w job) (shaped : Shaped r) (unheld : All (λ k. heldBy rule (state w .book) job p k ≡ none) ks) (full : length (w .session .marks) ≡ 64) where
     abbrev places : Bool
     places = placesRunOut rule (length (w .tiles)) (state w .book) job p ks
 

@@ -6,16 +6,16 @@ use Prim.Native.Nat.{ℕ}
 use lib.ListN.{length}
 use Rattle.service.specs.Admission.{answerTo}
 use Rattle.service.specs.Claims.{Keeps}
-use Rattle.service.specs.Demands.{accepted-keeps}
 use Rattle.service.specs.History.{Call, call, event, operating}
 use Rattle.service.specs.Journal.{encode, recordOf}
 use Rattle.service.specs.Laws.Accepting.{carried-journal, left-carried, passed, passes}
+use Rattle.service.specs.Theorems.{accepted-keeps}
 use Rattle.service.specs.World.{World, state, usedJournal}
 use Rattle.service.specs.declared.Address.{Address}
 use Rattle.rectangles.specs.Claims.{AllDone, leftBy, operations, recordsOf}
 use Rattle.rectangles.specs.Rectangles.{procedureFor}
-use Rattle.rectangles.specs.declared.Change.{Change}
 use Rattle.rectangles.specs.declared.Change.the-variants.{Delete, Insert}
+use Rattle.rectangles.specs.declared.Change.{Change}
 
 keeps-on : {w v x : World} → Keeps w v → Keeps v x → Keeps w x
 keeps-on h k =
