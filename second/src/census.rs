@@ -46,6 +46,7 @@ fn group_of(console: &Console, command: Command) -> String {
         Command::Replay(_, length) => by("replay", rule_replayed(console, length)),
         Command::Mend(_, length, _) => by("mend", rule_replayed(console, length)),
         Command::Sum => "sum".to_string(),
+        Command::Show | Command::Help => "picture".to_string(),
         Command::Change(_) => "change".to_string(),
     }
 }
@@ -99,6 +100,8 @@ fn is_on_session(command: Command) -> bool {
         | Command::Replay(..)
         | Command::Mend(..)
         | Command::Sum
+        | Command::Show
+        | Command::Help
         | Command::Change(_) => false,
     }
 }

@@ -1,9 +1,9 @@
 //! Runs another implementation on the same scripts and journals and reports every difference.
 
-use crate::console::answers;
 use crate::journals::journal;
 use crate::printed::printed_replay;
 use crate::scripts::script;
+use crate::talk::answers;
 use std::io::{self, Write};
 use std::process::{Child, Command, Stdio};
 

@@ -1,17 +1,16 @@
-//! The console: each line of text is a command, and each is answered by one line.
+//! The console: each line of text is a command, and each is answered by one line, or by several for
+//! a person to read.
 
-use crate::journal::{Reader, Reading, Record};
+use crate::journal::{Reader, Reading};
 use crate::line::{parse, Call, Change, Command};
 use crate::mend::mend;
+use crate::picture::{help, picture};
 use crate::rectangle::{Rectangle, Sweep};
 use crate::replay::replay;
 use crate::reply::{numbers, Reply};
-use crate::rule::Rule;
 use crate::service::{self, Address};
 use crate::session::{length_of, Session, Tables};
-
-/// The most input the program takes: 1 MiB.
-pub const MOST_INPUT: usize = 1_048_576;
+use crate::words::record_text;
 
 const MOST_LENT: (u32, u32, u32) = (5000, 1200, 66_000);
 const SUM_MODULUS: u64 = 4_294_967_291;
@@ -24,22 +23,6 @@ const UNTOUCHED: u8 = 255;
 pub struct Console {
     pub session: Session,
     pub tables: Tables,
-}
-
-/// All answers to an input.
-pub fn answers(input: &[u8]) -> Vec<u8> {
-    if input.len() > MOST_INPUT {
-        return b"too long\n".to_vec();
-    }
-    let mut console = Console::new();
-    let mut output = Vec::new();
-    // What stands after the last line feed is not a line.
-    let lines = input.split_inclusive(|byte| *byte == b'\n');
-    for line in lines.filter_map(|line| line.strip_suffix(b"\n")) {
-        output.extend_from_slice(console.answer(line).as_bytes());
-        output.push(b'\n');
-    }
-    output
 }
 
 impl Default for Console {
@@ -73,6 +56,8 @@ impl Console {
             Command::Replay(count, length) => self.replay(count, length_of(length)),
             Command::Mend(count, length, room) => self.mend(count, length_of(length), room),
             Command::Sum => Some(format!("sum {}", self.sum())),
+            Command::Show => Some(picture(&self.session, &self.tables, self.used_journal())),
+            Command::Help => Some(help()),
             Command::Change(change) => self.change(change).map(|()| "ok".to_string()),
         }
     }
@@ -210,23 +195,5 @@ fn address_line(address: Address) -> String {
     match service::address_key(address) {
         Ok(key) => format!("reply 0 key {}", key),
         Err(refusal) => format!("reply {} key 0", refusal.number()),
-    }
-}
-
-fn record_text(record: Record) -> String {
-    match record {
-        Record::Open(job) => format!("open {}", job),
-        Record::Operation {
-            job,
-            procedure,
-            ok,
-            tile,
-        } => {
-            let (procedure, answer) = (procedure.number(), u8::from(ok));
-            format!("operation {} {} {} {}", job, procedure, answer, tile.key())
-        }
-        Record::Commit(job) => format!("commit {}", job),
-        Record::Abort(job) => format!("abort {}", job),
-        Record::JobAsOne => format!("rule {}", Rule::JobAsOne.number()),
     }
 }

@@ -15,6 +15,8 @@ pub enum Command {
     Replay(u32, u32),
     Mend(u32, u32, u32),
     Sum,
+    Show,
+    Help,
     Change(Change),
 }
 
@@ -41,8 +43,13 @@ pub enum Change {
     Rule(Rule),
 }
 
-/// No command has more numbers than this.
+/// No command has more numbers than this, and no word or number of one more bytes.
 const MOST_NUMBERS: usize = 6;
+const LONGEST_WORD: usize = "operations".len();
+const LONGEST_NUMBER: usize = "18446744073709551615".len();
+
+/// A line with more bytes than this is no command.
+pub const MOST_BYTES: usize = LONGEST_WORD + MOST_NUMBERS * (1 + LONGEST_NUMBER);
 
 /// The command a line says; none if it is no such line.
 pub fn parse(line: &[u8]) -> Option<Command> {
@@ -70,6 +77,8 @@ fn parse_other(word: &[u8], numbers: &[&[u8]]) -> Option<Command> {
             Command::Mend(count(tiles)?, count(length)?, count(room)?)
         }
         (b"sum", []) => Command::Sum,
+        (b"show", []) => Command::Show,
+        (b"help", []) => Command::Help,
         _ => return None,
     })
 }

@@ -1,6 +1,9 @@
 //! The console page, to the byte.
 
-use second::console::{answers, Console, MOST_INPUT};
+use second::console::Console;
+use second::line::parse;
+use second::picture::COMMANDS;
+use second::talk::answers;
 
 fn talk(input: &str) -> String {
     String::from_utf8_lossy(&answers(input.as_bytes())).into_owned()
@@ -161,7 +164,7 @@ fn the_sum_runs_over_everything() {
 
 /// Lines that are no command where 2 tile places, 3 operation places and 60 bytes are lent.
 #[rustfmt::skip]
-const BAD_LINES: [&[u8]; 87] = [
+const BAD_LINES: [&[u8]; 95] = [
     b"", b" ", b"sum ", b" sum", b"sum 0", b"SUM", b"sum\r", b"sum\t", b"open", b"open  1",
     b"open 1 ", b"open 01", b"open +1", b"open -1", b"open 256", b"open 1 2", b"open\t1",
     b"open 1\r", b"open \xff", b"\xffopen 1", b"open 0x1", b"start 4294967296 1", b"start -1 1",
@@ -179,6 +182,7 @@ const BAD_LINES: [&[u8]; 87] = [
     b"delall 1 256 0 0 0 0", b"delall 1 4 0 2147483648 0 0", b"memall 1 4 0 0 0 0",
     b"mend 0 0", b"mend 0 0 0 0", b"mend 0 61 0", b"mend 0 0 66001", b"mend 0 0 4294967296",
     b"rule", b"rule 0", b"rule 3", b"rule 1 1",
+    b"help ", b" help", b"help 1", b"Help", b"helps", b"show ", b"show 1", b"show\r",
 ];
 
 #[test]
@@ -239,11 +243,57 @@ fn what_stands_after_the_last_line_feed_is_not_answered() {
     assert_eq!(talk("\n\n"), "?\n?\n");
 }
 
+/// Each command as help names it, with 1 for every number.
+fn commands_of_help() -> Vec<String> {
+    let named = COMMANDS.iter().filter_map(|line| line.split("  ").next());
+    let words = named.map(|command| command.split(' ').enumerate());
+    words
+        .map(|words| {
+            let spelled = words.map(|(place, word)| if place == 0 { word } else { "1" });
+            spelled.collect::<Vec<&str>>().join(" ")
+        })
+        .collect()
+}
+
 #[test]
-fn more_input_than_it_takes_is_too_long() {
-    let mut input = vec![b'x'; MOST_INPUT];
-    input[0] = b'\n';
-    assert_eq!(answers(&input), b"?\n");
-    input.push(b'\n');
-    assert_eq!(answers(&input), b"too long\n");
+fn help_names_every_command() {
+    let commands = commands_of_help();
+    for command in &commands {
+        assert!(parse(command.as_bytes()).is_some(), "{}", command);
+    }
+    let words = "lend start open commit abort ins del mem insall delall address read replay mend \
+                 sum show help tile entry byte tiles operations journal mark rule";
+    for word in words.split(' ') {
+        let named = commands
+            .iter()
+            .filter(|line| line.split(' ').next() == Some(word));
+        assert_eq!(named.count(), 1, "{}", word);
+    }
+    assert_eq!(talk("help\n"), COMMANDS.join("\n") + "\n");
+}
+
+#[test]
+fn show_shows_the_tables_and_changes_nothing() {
+    let mut console = Console::new();
+    for line in [
+        "lend 3 3 60",
+        "start 0 2",
+        "open 1",
+        "ins 1 4 -1 5",
+        "open 2",
+        "tile 1 7",
+        "tiles 2",
+        "journal 21",
+    ] {
+        console.answer(line.as_bytes());
+    }
+    let before = console.clone();
+    let due = "rule 2, open jobs: 1 2\ntiles: 2 of 3\n  4/15/5\n  7, which is no key\n\
+               operations: 1 of 3\n  kind 1 job 1 key 1073987589\njournal: 21 of 60\n\
+               \x20 at 0: rule 2\n  at 4: open 1\n  at 8: operation 1 1 1 1073987589\n\
+               \x20 at 18: cut";
+    assert_eq!(console.answer(b"show"), due);
+    console.answer(b"help");
+    assert_eq!(console.session, before.session);
+    assert_eq!(console.tables, before.tables);
 }

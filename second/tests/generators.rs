@@ -2,12 +2,13 @@
 
 use second::census::{count_journal, count_script, table, Counts};
 use second::census::{name_of, name_of_broken, name_of_occasion};
-use second::console::answers;
 use second::journals::{journal, KINDS};
 use second::occasions::all_names as occasion_names;
 use second::rule::RULES;
-use second::scripts::script;
+use second::scripts::{script, MEBIBYTE};
 use second::soundness::requirements_of;
+use second::talk::answers;
+use std::collections::BTreeSet;
 
 /// These seeds leave out the script that fills the largest tables, which is slow in a test build.
 const SEEDS: std::ops::Range<u64> = 6..37;
@@ -111,4 +112,32 @@ fn every_line_is_answered_by_one_line() {
         let feeds = |bytes: &[u8]| bytes.iter().filter(|byte| **byte == b'\n').count();
         assert_eq!(feeds(&text), feeds(&answers(&text)));
     }
+}
+
+fn lengths_of_lines(text: &[u8]) -> BTreeSet<usize> {
+    let lines = text.split(|byte| *byte == b'\n');
+    lines.map(<[u8]>::len).collect()
+}
+
+#[test]
+fn long_lines_and_long_scripts_occur() {
+    let buffers = [256, 4096, 65_536];
+    let mut lengths = BTreeSet::new();
+    let mut feeds = BTreeSet::new();
+    for seed in SEEDS {
+        let text = script(seed, LINES);
+        lengths.append(&mut lengths_of_lines(&text));
+        let ends = (0..text.len()).filter(|place| text[*place] == b'\n');
+        feeds.extend(ends.filter(|place| (place + 2) % 65_536 <= 2));
+    }
+    for buffer in buffers {
+        assert!((buffer - 1..=buffer + 1).all(|length| lengths.contains(&length)));
+    }
+    assert!((MEBIBYTE - 1..=MEBIBYTE + 1).all(|length| lengths.contains(&length)));
+    for place in 65_534..=65_536 {
+        assert!(feeds.iter().any(|feed| (feed - place) % 65_536 == 0));
+    }
+    let many = script(17, LINES);
+    assert!(many.len() > MEBIBYTE);
+    assert!(lengths_of_lines(&many).into_iter().max() < Some(MEBIBYTE / 2));
 }

@@ -4,11 +4,11 @@
 // so that it is reported.
 #![no_main]
 
-use second::console::{answers, MOST_INPUT};
 use second::program;
+use second::talk::Talk;
 use std::os::raw::c_int;
 
 #[no_mangle]
 pub extern "C" fn main() -> c_int {
-    program::run(MOST_INPUT + 1, answers)
+    program::run_talk(Talk::default())
 }

@@ -63,6 +63,8 @@ pub fn known(console: &Console, command: Command) -> Option<Known> {
         | Command::Replay(..)
         | Command::Mend(..)
         | Command::Sum
+        | Command::Show
+        | Command::Help
         | Command::Change(_) => return None,
     };
     match call {

@@ -1,7 +1,8 @@
 //! Lines that are almost commands.
 
 use crate::random::Random;
-use crate::scripts::writer::Writer;
+use crate::scripts::long_lines;
+use crate::session::Tables;
 
 #[derive(Clone, Copy)]
 enum Type {
@@ -41,10 +42,13 @@ const FORMS: [Form; 23] = [
     ("rule", &[Small]),
 ];
 
-const UNKNOWN_WORDS: [&str; 15] = [
-    "Open", "OPEN", "opens", "ope", "insert", "help", "quit", "summ", "su", "tile1", "-", "?",
-    "memall", "insal", "delalls",
+const UNKNOWN_WORDS: [&str; 18] = [
+    "Open", "OPEN", "opens", "ope", "insert", "quit", "summ", "su", "tile1", "-", "?", "memall",
+    "insal", "delalls", "Help", "helps", "shows", "sho",
 ];
+
+/// The two commands whose answers are not compared are only written as something else.
+const NO_PICTURES: [&str; 6] = ["help ", " help", "help 0", "show ", " show", "show 1"];
 
 const NO_RULES: [u8; 4] = [0, 3, 4, 255];
 
@@ -113,12 +117,15 @@ fn joined(word: &str, numbers: &[String]) -> String {
     line
 }
 
-pub fn bad_line(writer: &mut Writer) -> Vec<u8> {
-    match writer.random.below(8) {
-        0 => place_not_lent(writer).into_bytes(),
-        1 => odd_bytes(&mut writer.random),
-        2..=4 => wrong_number(&mut writer.random).into_bytes(),
-        _ => wrong_shape(&mut writer.random).into_bytes(),
+/// A line to follow so many bytes of a script, where these tables are lent.
+pub fn bad_line(random: &mut Random, tables: &Tables, written: usize) -> Vec<u8> {
+    match random.below(18) {
+        0..=1 => place_not_lent(random, tables).into_bytes(),
+        2..=3 => odd_bytes(random),
+        4..=9 => wrong_number(random).into_bytes(),
+        10 => long_lines::about_a_buffer(random),
+        11 => long_lines::to_the_end_of_a_buffer(random, written),
+        _ => wrong_shape(random).into_bytes(),
     }
 }
 
@@ -151,7 +158,7 @@ fn wrong_number(random: &mut Random) -> String {
 fn wrong_shape(random: &mut Random) -> String {
     let (word, _, mut numbers) = some_form(random);
     let line = joined(word, &numbers);
-    match random.below(13) {
+    match random.below(14) {
         0 => String::new(),
         1 => joined(random.pick(&UNKNOWN_WORDS), &numbers),
         2 => {
@@ -167,6 +174,7 @@ fn wrong_shape(random: &mut Random) -> String {
         9 => line + random.pick(&["\t", "\r", "\u{b}", "\u{0}", ".", ";", "#"]),
         10 => line.to_uppercase(),
         11 => " ".repeat(random.between(1, 5)),
+        12 => random.pick(&NO_PICTURES).to_string(),
         _ => (line + " ").repeat(random.pick(&[2, 3, 100, 1000])),
     }
 }
@@ -190,14 +198,13 @@ fn odd_bytes(random: &mut Random) -> Vec<u8> {
 }
 
 /// The first place that is not lent, or a job, bit, rule or length that the command does not take.
-fn place_not_lent(writer: &mut Writer) -> String {
-    let tables = &writer.console.tables;
+fn place_not_lent(random: &mut Random, tables: &Tables) -> String {
     let (tiles, operations, journal) = (
         tables.tiles.len(),
         tables.operations.len(),
         tables.journal.len(),
     );
-    match writer.random.below(16) {
+    match random.below(16) {
         0 => format!("tile {} 0", tiles),
         1 => format!("entry {} 0", operations),
         2 => format!("byte {} 0", journal),
@@ -211,8 +218,8 @@ fn place_not_lent(writer: &mut Writer) -> String {
         14 => "mend 0 0 66001".to_string(),
         9 => "lend 5001 1 1".to_string(),
         10 => "lend 1 1201 1".to_string(),
-        11 => format!("start 0 {}", writer.random.pick(&NO_RULES)),
-        12 => format!("rule {}", writer.random.pick(&NO_RULES)),
+        11 => format!("start 0 {}", random.pick(&NO_RULES)),
+        12 => format!("rule {}", random.pick(&NO_RULES)),
         _ => "lend 1 1 66001".to_string(),
     }
 }

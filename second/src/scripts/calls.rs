@@ -89,6 +89,14 @@ fn address_step(random: &mut Random, pool: &Pool) -> String {
     format!("address {} {} {}", place.zoom, place.column, place.row)
 }
 
+pub fn address_steps(writer: &mut Writer, times: usize) {
+    let pool = Pool::few(&mut writer.random);
+    for _ in 0..times {
+        let line = address_step(&mut writer.random, &pool);
+        writer.tell(line);
+    }
+}
+
 fn read_somewhere(writer: &mut Writer) -> String {
     let used = writer.console.used_journal().len();
     let place = match writer.random.below(8) {

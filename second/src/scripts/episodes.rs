@@ -2,7 +2,6 @@
 
 use crate::rule::RULES;
 use crate::scripts::addresses::Pool;
-use crate::scripts::bad_lines;
 use crate::scripts::calls;
 use crate::scripts::damage;
 use crate::scripts::filling;
@@ -207,8 +206,7 @@ fn only_bad_lines(writer: &mut Writer) {
     writer.start(0);
     writer.tell("open 1");
     for _ in 0..writer.random.between(10, 40) {
-        let line = bad_lines::bad_line(writer);
-        writer.tell(line);
+        writer.tell_bad_line();
         if writer.random.one_in(5) {
             writer.tell("sum");
         }

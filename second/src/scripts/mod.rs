@@ -6,6 +6,7 @@ mod calls;
 mod damage;
 mod episodes;
 mod filling;
+mod long_lines;
 mod mending;
 mod nowhere;
 mod rectangles;
@@ -17,35 +18,31 @@ mod writer;
 mod wrong_entries;
 mod wrong_tiles;
 
-use crate::console::MOST_INPUT;
 use crate::random::Random;
 use writer::Writer;
 
-/// Every so many seeds a script fills the largest tables, call by call or by rectangles, and some
-/// have a special length.
+/// Every so many seeds a script fills the largest tables, call by call or by rectangles, has lines
+/// of more than a mebibyte, or has so many lines that they are more together.
 const SEEDS_ROUND: u64 = 32;
 const FILLING_SEED: u64 = 5;
+const LONG_LINES_SEED: u64 = 11;
+const MANY_LINES_SEED: u64 = 17;
 const SWEEPING_SEED: u64 = 21;
-const LENGTH_SEEDS: [(u64, usize); 2] = [(11, MOST_INPUT), (17, MOST_INPUT + 1)];
+
+pub const MEBIBYTE: usize = 1_048_576;
 
 /// The script of a seed, of about so many lines.
 pub fn script(seed: u64, lines: usize) -> Vec<u8> {
     let mut writer = Writer::new(Random::seeded(seed));
-    let turn = seed % SEEDS_ROUND;
-    if turn == FILLING_SEED {
-        filling::fill_largest_tables(&mut writer);
-    } else if turn == SWEEPING_SEED {
-        sweeping::fill_largest_tables(&mut writer);
-    } else {
-        write_episodes(&mut writer, lines);
+    match seed % SEEDS_ROUND {
+        FILLING_SEED => filling::fill_largest_tables(&mut writer),
+        SWEEPING_SEED => sweeping::fill_largest_tables(&mut writer),
+        LONG_LINES_SEED => write_long_lines(&mut writer, lines),
+        MANY_LINES_SEED => write_many_lines(&mut writer),
+        _ => write_episodes(&mut writer, lines),
     }
     writer.finish_without_line_feed();
-    let mut text = writer.into_text();
-    let special_length = LENGTH_SEEDS.iter().find(|(due, _)| *due == turn);
-    if let Some((_, length)) = special_length {
-        pad(&mut text, *length);
-    }
-    text
+    writer.into_text()
 }
 
 fn write_episodes(writer: &mut Writer, lines: usize) {
@@ -56,9 +53,22 @@ fn write_episodes(writer: &mut Writer, lines: usize) {
     }
 }
 
-/// Makes the text that long by one very long line behind it.
-fn pad(text: &mut Vec<u8>, length: usize) {
-    text.push(b'\n');
-    text.resize(length - 1, b'7');
-    text.push(b'\n');
+/// Behind each very long line the others are answered as before.
+fn write_long_lines(writer: &mut Writer, lines: usize) {
+    let lengths = [MEBIBYTE - 1, MEBIBYTE, MEBIBYTE + 1];
+    for (length, turn) in lengths.into_iter().zip(1..) {
+        write_episodes(writer, lines * turn / lengths.len());
+        let line = long_lines::of_length(&mut writer.random, length);
+        writer.tell(line);
+        writer.sum_mostly();
+    }
+    calls::some_calls(writer, 6);
+}
+
+/// Between the episodes stand many lines that are answered quickly.
+fn write_many_lines(writer: &mut Writer) {
+    while writer.bytes() <= MEBIBYTE {
+        episodes::episode(writer);
+        calls::address_steps(writer, 600);
+    }
 }

@@ -30,6 +30,10 @@ impl Writer {
         self.lines
     }
 
+    pub fn bytes(&self) -> usize {
+        self.text.len()
+    }
+
     pub fn into_text(self) -> Vec<u8> {
         self.text
     }
@@ -45,10 +49,15 @@ impl Writer {
     /// Now and then a bad line; then, mostly, a look at the whole content.
     pub fn look(&mut self) {
         if self.random.one_in(12) {
-            let line = bad_lines::bad_line(self);
-            self.tell(line);
+            self.tell_bad_line();
         }
         self.sum_mostly();
+    }
+
+    pub fn tell_bad_line(&mut self) {
+        let tables = &self.console.tables;
+        let line = bad_lines::bad_line(&mut self.random, tables, self.text.len());
+        self.tell(line);
     }
 
     /// Asks for the sum of everything, after most lines where that is little, else rarely.
