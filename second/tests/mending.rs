@@ -184,18 +184,7 @@ fn aborts_stand_in_rising_order_of_the_jobs() {
 
 #[test]
 fn refused_by_1_as_a_replay_is() {
-    let key = tile(A).key();
-    let cases: [(Vec<u32>, u32, usize, usize); 8] = [
-        (vec![], 0, 1, 0),
-        (vec![0; 4097], 0, 1, 0),
-        (vec![0], 0, 0, 0),
-        (vec![0], 0, 1025, 0),
-        (vec![key], 0, 1, 0),
-        (vec![key], 2, 1, 0),
-        (vec![1], 1, 1, 0),
-        (vec![key], 1, 1, MOST + 1),
-    ];
-    for (tiles, count, operations, length) in cases {
+    for (tiles, count, operations, length) in refused_by_1() {
         // With no output at all, so that 18 would be due as well where there is a result.
         let mut tables = Lent {
             tiles,

@@ -24,18 +24,7 @@ fn run(bytes: &[u8], places: usize, operations: usize) -> (Replayed, Vec<u32>, V
 
 #[test]
 fn a_refused_replay_changes_nothing() {
-    let key = tile(A).key();
-    let cases: [(Vec<u32>, u32, usize, usize); 8] = [
-        (vec![], 0, 1, 0),
-        (vec![0; 4097], 0, 1, 0),
-        (vec![0], 0, 0, 0),
-        (vec![0], 0, 1025, 0),
-        (vec![key], 0, 1, 0),
-        (vec![key], 2, 1, 0),
-        (vec![1], 1, 1, 0),
-        (vec![key], 1, 1, 65_537),
-    ];
-    for (tiles, count, operations, length) in cases {
+    for (tiles, count, operations, length) in refused_by_1() {
         let (mut after, mut entries) = (tiles.clone(), vec![5; operations]);
         let outcome = replay(&vec![0; length], &mut after, count, &mut entries);
         assert_eq!(outcome, replayed(1, 0, 0, count));

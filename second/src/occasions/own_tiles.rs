@@ -54,19 +54,14 @@ pub enum Known {
 }
 
 pub fn known(console: &Console, command: Command) -> Option<Known> {
-    let call = match command {
-        Command::Call(call) => call,
-        Command::Lend(..)
-        | Command::Sweep(..)
-        | Command::Address(_)
-        | Command::Read(_)
-        | Command::Replay(..)
-        | Command::Mend(..)
-        | Command::Sum
-        | Command::Show
-        | Command::Help
-        | Command::Change(_) => return None,
-    };
+    if let Command::Call(call) = command {
+        known_of(console, call)
+    } else {
+        None
+    }
+}
+
+fn known_of(console: &Console, call: Call) -> Option<Known> {
     match call {
         Call::Start(_, Rule::JobAsOne) => Some(Known::Start {
             journal: console.tables.journal.len(),

@@ -1,19 +1,10 @@
-//! Damage to sound tables: one requirement of soundness at a time, and its repair.
-
-use crate::rule::RULES;
-use crate::scripts::addresses::Pool;
-use crate::scripts::calls;
-use crate::scripts::writer::Writer;
-use crate::scripts::wrong_entries;
-use crate::scripts::wrong_tiles;
-use crate::session::length_of;
-use crate::soundness::{requirements_of, Requirement};
+//! Damage to tables, and its repair.
 
 /// Lines that break a rule, and lines that mend it again.
 #[derive(Default)]
 pub struct Damage {
-    breaking: Vec<String>,
-    mending: Vec<String>,
+    pub breaking: Vec<String>,
+    pub mending: Vec<String>,
 }
 
 impl Damage {
@@ -26,110 +17,4 @@ impl Damage {
         self.mending.push(mending);
         self
     }
-}
-
-/// Breaks a requirement, makes some calls, mends it, and makes some more.
-pub fn break_a_requirement(writer: &mut Writer, pool: &Pool) {
-    let asked: Vec<Requirement> = requirements_of(writer.console.session.rule).collect();
-    let requirement = writer.random.pick(&asked);
-    let damage = if writer.random.one_in(15) {
-        other_rule(writer)
-    } else {
-        match damage_to(writer, requirement) {
-            None => return,
-            Some(damage) => damage,
-        }
-    };
-    for line in &damage.breaking {
-        writer.tell(line);
-    }
-    if requirement == Requirement::JournalCount {
-        calls::read_here_and_there(writer, 4);
-    }
-    let refused_calls = writer.random.between(1, 4);
-    calls::run(writer, pool, refused_calls);
-    for line in damage.mending.iter().rev() {
-        writer.tell(line);
-    }
-    calls::run(writer, pool, 2);
-}
-
-/// Tables that are sound by one rule may not be so by the other.
-fn other_rule(writer: &mut Writer) -> Damage {
-    let rule = writer.console.session.rule.number();
-    let wrong = writer.random.pick(&RULES).number();
-    Damage::one(format!("rule {}", wrong), format!("rule {}", rule))
-}
-
-/// None where the tables as they stand give no occasion, and for lengths, which are lent so.
-fn damage_to(writer: &mut Writer, requirement: Requirement) -> Option<Damage> {
-    match requirement {
-        Requirement::TileLength | Requirement::OperationLength | Requirement::JournalLength => None,
-        Requirement::TileCount => Some(pass_length(writer, "tiles")),
-        Requirement::OperationCount => Some(pass_length(writer, "operations")),
-        Requirement::JournalCount => Some(pass_length(writer, "journal")),
-        Requirement::TileKey => wrong_tiles::wrong_key(writer),
-        Requirement::TileOrder => wrong_tiles::wrong_order(writer),
-        Requirement::TileRest => {
-            let used = length_of(writer.console.session.tiles);
-            let length = writer.console.tables.tiles.len();
-            wrong_rest(writer, "tile", used, length)
-        }
-        Requirement::EntryRest => {
-            let used = length_of(writer.console.session.operations);
-            let length = writer.console.tables.operations.len();
-            wrong_rest(writer, "entry", used, length)
-        }
-        Requirement::EntryKind => wrong_entries::wrong_kind(writer),
-        Requirement::EntryJob => wrong_entries::wrong_job(writer),
-        Requirement::EntryKey => wrong_entries::wrong_key(writer),
-        Requirement::AddedIsPresent => wrong_entries::untrue_change(writer, 1),
-        Requirement::RemovedIsAbsent => wrong_entries::untrue_change(writer, 3),
-        Requirement::NothingLater => wrong_entries::later_entry(writer),
-        Requirement::ChangesAlternate => wrong_entries::repeated_change(writer),
-        Requirement::OneJobOnward => wrong_entries::other_job(writer),
-        Requirement::TileRoom => wrong_entries::one_removed_too_many(writer),
-        Requirement::JournalRoom => too_little_journal(writer),
-    }
-}
-
-fn pass_length(writer: &mut Writer, word: &str) -> Damage {
-    let (session, tables) = (&writer.console.session, &writer.console.tables);
-    let (count, length) = match word {
-        "tiles" => (session.tiles, tables.tiles.len()),
-        "operations" => (session.operations, tables.operations.len()),
-        _ => (session.journal, tables.journal.len()),
-    };
-    let far = writer.random.pick(&[65_537, 2_147_483_648, 4_294_967_295]);
-    let wrong = writer
-        .random
-        .pick(&[length + 1, length + 1, length + 2, far]);
-    Damage::one(format!("{} {}", word, wrong), format!("{} {}", word, count))
-}
-
-/// A number in one of the places that are not used.
-fn wrong_rest(writer: &mut Writer, word: &str, used: usize, length: usize) -> Option<Damage> {
-    if used >= length {
-        return None;
-    }
-    let middle = used + (length - used) / 2;
-    let place = writer.random.pick(&[used, middle, length - 1]);
-    let wrong = writer.random.pick(&[1u64, 1_073_741_824, 4_026_531_839]);
-    Some(Damage::one(
-        format!("{} {} {}", word, place, wrong),
-        format!("{} {} 0", word, place),
-    ))
-}
-
-fn too_little_journal(writer: &mut Writer) -> Option<Damage> {
-    let open = writer.open_jobs().len();
-    let length = writer.console.tables.journal.len();
-    let used = writer.console.session.journal;
-    // The last count that is right is tried as well.
-    let most = length.checked_sub(4 * open)?;
-    let wrong = (most + writer.random.pick(&[0, 1, 1, 2, 4])).min(length);
-    Some(Damage::one(
-        format!("journal {}", wrong),
-        format!("journal {}", used),
-    ))
 }

@@ -2,8 +2,8 @@
 
 use crate::rule::RULES;
 use crate::scripts::addresses::Pool;
+use crate::scripts::breaking;
 use crate::scripts::calls;
-use crate::scripts::damage;
 use crate::scripts::filling;
 use crate::scripts::mending;
 use crate::scripts::nowhere;
@@ -118,7 +118,7 @@ fn broken_tables(writer: &mut Writer) {
         _ => nowhere::put_sound_session(writer, &pool),
     }
     for _ in 0..writer.random.between(3, 12) {
-        damage::break_a_requirement(writer, &pool);
+        breaking::break_a_requirement(writer, &pool);
     }
     starts(writer);
 }

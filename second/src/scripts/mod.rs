@@ -2,6 +2,7 @@
 
 mod addresses;
 mod bad_lines;
+mod breaking;
 mod calls;
 mod damage;
 mod episodes;

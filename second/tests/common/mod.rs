@@ -154,3 +154,19 @@ impl Bench {
         &self.tables.journal[..self.session.journal as usize]
     }
 }
+
+/// Tiles, their count, a number of operation places and a journal's length that a replay, and a
+/// mend, refuses by 1.
+pub fn refused_by_1() -> [(Vec<u32>, u32, usize, usize); 8] {
+    let key = tile(A).key();
+    [
+        (vec![], 0, 1, 0),
+        (vec![0; 4097], 0, 1, 0),
+        (vec![0], 0, 0, 0),
+        (vec![0], 0, 1025, 0),
+        (vec![key], 0, 1, 0),
+        (vec![key], 2, 1, 0),
+        (vec![1], 1, 1, 0),
+        (vec![key], 1, 1, 65_537),
+    ]
+}
