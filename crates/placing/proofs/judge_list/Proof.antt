@@ -3,7 +3,6 @@ use mathlib.Core.List.{[]}
 use lib.ListN.{take}
 use borrow.Author.Needs.{needs}
 use denote.Ref.{now}
-use Rattle.rectangles.specs.Rectangles.{ruledBy}
 use Rattle.service.specs.Laws.Soundness.{retabled}
 use Rattle.service.specs.World.{World, state, world}
 use Rattle.placing.proofs.judge_list.Statement.{statement}
@@ -19,7 +18,7 @@ given s = world (s .args .session) (now (s .args .tiles)) (now (s .args .operati
 -- how many places the list needs
 needing : (c : tie.After-known-told2)
     → let s = c .before .before .before .before .before .before .before .before .before .before in
-    Finds (ruledBy (given s)) (state (given s) .book) (s .args .job) (s .args .procedure) (take (s .args .n) (now (s .args .keys))) (found.Needs (c .before .need .given .0 .0))
+    Finds (given s .session .rule) (state (given s) .book) (s .args .job) (s .args .procedure) (take (s .args .n) (now (s .args .keys))) (found.Needs (c .before .need .given .0 .0))
 needing c = finds _ _ _ _ _ _ _ (c .before .before .before .look-all .ensures) (c .before .need .given .1)
 
 meet-all-requires : tie.Need-meet-all-requires

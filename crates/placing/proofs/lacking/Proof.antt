@@ -8,7 +8,6 @@ use denote.Ref.{now}
 use Rattle.strict.specs.Book.{spokenFor}
 use Rattle.service.specs.World.{World, state, world}
 use Rattle.admission.specs.Laws.{operations-count, spoken-for, tile-table}
-use Rattle.rectangles.specs.Rectangles.{ruledBy}
 use Rattle.placing.specs.Laws.Carrying.{no-bytes, no-places, no-slots, room-enough}
 use Rattle.placing.proofs.lacking.Statement.{statement}
 use Rattle.placing.proofs.lacking.Tie as tie
@@ -20,7 +19,7 @@ given c =
     world (a .session) (now (a .tiles)) (now (a .operations)) (now (a .journal))
 
 record Known (c : tie.After-count-besides) : Type 0 where
-  spoken : spokenFor (ruledBy (given c)) (state (given c) .book) ≡ given c .session .tiles + c .count-besides .result
+  spoken : spokenFor (given c .session .rule) (state (given c) .book) ≡ given c .session .tiles + c .count-besides .result
   used : length (state (given c) .book .table) ≡ given c .session .operations
   room : given c .session .tiles + c .count-besides .result ≤ length (given c .tiles)
   few : length (given c .tiles) ≤ 4096
