@@ -35,7 +35,8 @@ fn session_of(marks: &[bool; 64], parts: &[usize; 4]) -> Session {
 
 // Gives the next session back in its parts, and the reply as its number, answer and holder.
 fn give(outcome: Outcome, marks: &mut [bool; 64], parts: &mut [usize; 4], reply: &mut [u64; 4]) {
-    let told = outcome.reply;
+    let answered = outcome.reply;
+    let told = decisions::numbers(answered);
     let next = outcome.session;
     let open = next.marks;
     *marks = open;
@@ -44,9 +45,9 @@ fn give(outcome: Outcome, marks: &mut [bool; 64], parts: &mut [usize; 4], reply:
     parts[2] = next.journal;
     let rule = next.rule;
     parts[3] = rule_number(rule);
-    reply[0] = decisions::number(told) as u64;
-    reply[1] = decisions::answer(told) as u64;
-    reply[2] = decisions::holder(told) as u64;
+    reply[0] = told.number as u64;
+    reply[1] = told.answer as u64;
+    reply[2] = told.holder as u64;
     reply[3] = 0;
 }
 

@@ -5,15 +5,16 @@ use mathlib.Core.Path.{_≡_}
 use Prim.Native.Nat.{_*_, _+_, ℕ}
 use lib.Dec.{eqb, ltb}
 use lib.ListN.{length}
+use Rattle.strict.specs.declared.Procedure.{Procedure}
 use Rattle.service.specs.Admission.{admission, openMarks}
 use Rattle.service.specs.Calls.{operationRefusals}
 use Rattle.service.specs.Tile.{addressCall}
-use Rattle.service.specs.Told.{Refusal, Told, decided, refuse, refused, told}
+use Rattle.service.specs.Told.{Refusal, decided, refuse, refused, told}
 use Rattle.service.specs.World.{World, freeBytes, state}
 use Rattle.service.specs.declared.Address.{Address}
-use Rattle.strict.specs.declared.Procedure.{Procedure}
-use Rattle.decisions.specs.declared.Decision.{Decision}
+use Rattle.service.specs.declared.Told.{Told}
 use Rattle.decisions.specs.declared.Decision.the-variants.{Perform, Refuse}
+use Rattle.decisions.specs.declared.Decision.{Decision}
 
 -- a refusal is the reply that the refusals decide; where none applies, the operation is performed on that key
 abbrev pub Settles : List Refusal → ℕ → Decision → Type 0

@@ -16,12 +16,13 @@ use Rattle.service.specs.Laws.Soundness.{sound-is}
 use Rattle.service.specs.Laws.Telling.{decided-done, decided-none, unrefused}
 use Rattle.service.specs.Sound.{Sound, soundB}
 use Rattle.service.specs.Tile.{Placed, addressCall, placed}
-use Rattle.service.specs.Told.{Refusal, Told, bare, decided, done, refuse, refused, told}
+use Rattle.service.specs.Told.{Refusal, bare, decided, done, refuse, refused, told}
 use Rattle.service.specs.World.{World, freeBytes, state}
 use Rattle.service.specs.declared.Address.{Address}
 use Rattle.service.specs.declared.Located.the-variants.{Key, Refused}
 use Rattle.service.specs.declared.Reply.the-variants as reply
 use Rattle.service.specs.declared.Reply.{Reply}
+use Rattle.service.specs.declared.Told.{Told}
 use Rattle.admission.specs.Laws.{Means}
 use Rattle.admission.specs.declared.Verdict.the-variants.{Admitted, Held, NoOperationRoom, NoTileRoom}
 use Rattle.admission.specs.declared.Verdict.{Verdict}

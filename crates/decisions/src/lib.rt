@@ -4,7 +4,7 @@ ghost use mathlib.Core.Path.{_≡_};
 ghost use lib.Dec.{eqb};
 ghost use Rattle.service.specs.Calls.{endRefusals, openRefusals};
 ghost use Rattle.service.specs.Sound.{Sound};
-ghost use Rattle.service.specs.Told.{decided, done, told};
+ghost use Rattle.service.specs.Told.{bare, decided, done, told};
 ghost use Rattle.service.specs.World.{world};
 ghost use Rattle.decisions.specs.Decides.{Decides, Judges};
 use admission::Verdict;
@@ -12,6 +12,7 @@ use service::Address;
 use service::Located;
 use service::Reply;
 use service::Session;
+use service::Told;
 use strict::Procedure;
 
 // What an operation comes to: a refusal, or the key on which it is to be performed.
@@ -20,60 +21,41 @@ pub enum Decision {
     Perform(u32),
 }
 
-// A reply's number.
-pub fn number(reply: Reply) -> u8
-    ensures { λ r. ⌜ r ≡ told reply .number ⌝ }
+// A number whose other fields are 0.
+fn bare_number(number: u8) -> Told
+    ensures { λ r. ⌜ r ≡ bare number ⌝ }
 {
-    match reply {
-        Reply::Done(_) => 0,
-        Reply::NotSound => 1,
-        Reply::NoSuchJob => 2,
-        Reply::NotOpen => 3,
-        Reply::AlreadyOpen => 4,
-        Reply::OutOfRange => 5,
-        Reply::Held(_) => 6,
-        Reply::NoTileRoom => 7,
-        Reply::NoOperationRoom => 8,
-        Reply::NoJournalRoom => 9,
-        Reply::Misshapen => 13,
+    Told {
+        number,
+        answer: 0,
+        holder: 0,
     }
 }
 
-// Its answer: 1 for ok, and 0 for fail and wherever there is none.
-pub fn answer(reply: Reply) -> u8
-    ensures { λ r. ⌜ r ≡ told reply .answer ⌝ }
+// A reply's numbers.
+pub fn numbers(reply: Reply) -> Told
+    ensures { λ r. ⌜ r ≡ told reply ⌝ }
 {
     match reply {
-        Reply::Done(ok) => ok as u8,
-        Reply::NotSound => 0,
-        Reply::NoSuchJob => 0,
-        Reply::NotOpen => 0,
-        Reply::AlreadyOpen => 0,
-        Reply::OutOfRange => 0,
-        Reply::Held(_) => 0,
-        Reply::NoTileRoom => 0,
-        Reply::NoOperationRoom => 0,
-        Reply::NoJournalRoom => 0,
-        Reply::Misshapen => 0,
-    }
-}
-
-// The job that holds, and 0 wherever there is none.
-pub fn holder(reply: Reply) -> u8
-    ensures { λ r. ⌜ r ≡ told reply .holder ⌝ }
-{
-    match reply {
-        Reply::Done(_) => 0,
-        Reply::NotSound => 0,
-        Reply::NoSuchJob => 0,
-        Reply::NotOpen => 0,
-        Reply::AlreadyOpen => 0,
-        Reply::OutOfRange => 0,
-        Reply::Held(job) => job,
-        Reply::NoTileRoom => 0,
-        Reply::NoOperationRoom => 0,
-        Reply::NoJournalRoom => 0,
-        Reply::Misshapen => 0,
+        Reply::Done(ok) => Told {
+            number: 0,
+            answer: ok as u8,
+            holder: 0,
+        },
+        Reply::NotSound => bare_number(1),
+        Reply::NoSuchJob => bare_number(2),
+        Reply::NotOpen => bare_number(3),
+        Reply::AlreadyOpen => bare_number(4),
+        Reply::OutOfRange => bare_number(5),
+        Reply::Held(job) => Told {
+            number: 6,
+            answer: 0,
+            holder: job,
+        },
+        Reply::NoTileRoom => bare_number(7),
+        Reply::NoOperationRoom => bare_number(8),
+        Reply::NoJournalRoom => bare_number(9),
+        Reply::Misshapen => bare_number(13),
     }
 }
 
@@ -81,7 +63,8 @@ pub fn holder(reply: Reply) -> u8
 pub fn accepted(reply: Reply) -> bool
     ensures { λ r. ⌜ r ≡ eqb (told reply .number) 0 ⌝ }
 {
-    number(reply) == 0
+    let told = numbers(reply);
+    told.number == 0
 }
 
 // What an open replies.

@@ -14,8 +14,9 @@ use Rattle.strict.specs.declared.Rule.{Rule}
 use Rattle.service.specs.Admission.{openMarks}
 use Rattle.service.specs.Claims.{Serves}
 use Rattle.service.specs.Tile.{isKey}
-use Rattle.service.specs.Told.{Refusal, Told, bare, decided}
+use Rattle.service.specs.Told.{Refusal, bare, decided}
 use Rattle.service.specs.World.{Reported, World, freeBytes, state}
+use Rattle.service.specs.declared.Told.{Told}
 use Rattle.rectangles.specs.Claims.{Apart}
 use Rattle.rectangles.specs.Rectangles.{carriedAll, firstHeld, listRefusals, needed, roomRefusals}
 use Rattle.rectangles.specs.declared.Rectangle.{Rectangle}

@@ -6,16 +6,17 @@ use Prim.Native.Nat.{ℕ}
 use lib.IntN.{negsuc, pos, ℤ}
 use Rattle.strict.specs.Commutativity.{entryAt}
 use Rattle.strict.specs.declared.Procedure.the-variants.{Ins}
-use Rattle.strict.specs.declared.Rule.{Rule}
 use Rattle.strict.specs.declared.Rule.the-variants.{Alone, Together}
+use Rattle.strict.specs.declared.Rule.{Rule}
 use Rattle.service.specs.Calls.{concluded, startCall}
 use Rattle.service.specs.Cases.{address, from}
 use Rattle.service.specs.History.{aborting, committing, opening, operating}
 use Rattle.service.specs.Journal.{encode}
 use Rattle.service.specs.Sound.{soundB, tabledB}
 use Rattle.service.specs.Tile.{columnIn, isKey, keyOf, rowIn}
-use Rattle.service.specs.Told.{Told, bare, done}
+use Rattle.service.specs.Told.{bare, done}
 use Rattle.service.specs.World.{World, usedTiles}
+use Rattle.service.specs.declared.Told.{Told}
 use Rattle.rectangles.specs.Claims.{Move, moved, plain, rectangle}
 use Rattle.rectangles.specs.Rectangles.{keys, listed, misshapen, outOfRange, rectangleCall}
 use Rattle.rectangles.specs.declared.Change.the-variants.{Delete, Insert}

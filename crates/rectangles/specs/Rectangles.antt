@@ -17,9 +17,10 @@ use Rattle.service.specs.Admission.{openMarks}
 use Rattle.service.specs.Calls.{carried, endRefusals}
 use Rattle.service.specs.Limits.{operationSize, shortSize}
 use Rattle.service.specs.Tile.{addressCall}
-use Rattle.service.specs.Told.{Refusal, Told, bare, decided, refuse, refuseHeld}
+use Rattle.service.specs.Told.{Refusal, bare, decided, refuse, refuseHeld}
 use Rattle.service.specs.World.{Reported, World, freeBytes, state}
 use Rattle.service.specs.declared.Address.{Address}
+use Rattle.service.specs.declared.Told.{Told}
 use Rattle.rectangles.specs.declared.Change.the-variants.{Delete, Insert}
 use Rattle.rectangles.specs.declared.Change.{Change}
 use Rattle.rectangles.specs.declared.Rectangle.{Rectangle}

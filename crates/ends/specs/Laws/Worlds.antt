@@ -22,8 +22,9 @@ use Rattle.service.specs.Laws.Standing.{Stands, stands-perform}
 use Rattle.service.specs.Laws.Storing.{open-small, padded-zeros, places-stored, slots-stored}
 use Rattle.service.specs.Sound.{Tabled, soundB}
 use Rattle.service.specs.Theorems.{accepted-keeps, ends-accepted}
-use Rattle.service.specs.Told.{Told, bare}
+use Rattle.service.specs.Told.{bare}
 use Rattle.service.specs.World.{World, state, usedJournal, usedOperations, usedTiles, world}
+use Rattle.service.specs.declared.Told.{Told}
 use Rattle.ends.specs.Ends.{AllDone, End, Group, Reordered, after, behind, cancels, endRecords, ending, first, keeps, nothing, swapped, then, whose}
 use Rattle.ends.specs.Laws.Orders.{ends, marks-end, state-either-first}
 

@@ -14,8 +14,9 @@ use Rattle.service.specs.History.{committing}
 use Rattle.service.specs.Laws.Accepting.{numbered}
 use Rattle.service.specs.Laws.Telling.{decided-done, unrefused}
 use Rattle.service.specs.Tile.{isKey}
-use Rattle.service.specs.Told.{Refusal, Told, bare, decided, done, refuse}
+use Rattle.service.specs.Told.{Refusal, bare, decided, done, refuse}
 use Rattle.service.specs.World.{Reported, World}
+use Rattle.service.specs.declared.Told.{Told}
 use Rattle.decisions.specs.Laws.{decided-append, gate-refuses}
 use Rattle.rectangles.specs.Claims.{Apart, Shaped}
 use Rattle.rectangles.specs.Laws.Tiles.{all-apart}

@@ -14,8 +14,9 @@ use Rattle.strict.specs.declared.Procedure.{Procedure}
 use Rattle.service.specs.Admission.{openMarks}
 use Rattle.service.specs.Claims.{Serves}
 use Rattle.service.specs.Laws.Telling.{Numbered, decided-done, held-numbered, not-held, unrefused}
-use Rattle.service.specs.Told.{Told, bare, decided}
+use Rattle.service.specs.Told.{bare, decided}
 use Rattle.service.specs.World.{Reported, World, freeBytes, state}
+use Rattle.service.specs.declared.Told.{Told}
 use Rattle.rectangles.specs.Fitting.{Ahead, Fits}
 use Rattle.rectangles.specs.Laws.Fitting.{ahead-start}
 use Rattle.rectangles.specs.Rectangles.{carriedAll, firstHeld, listRefusals}

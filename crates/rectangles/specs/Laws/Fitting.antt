@@ -28,9 +28,10 @@ use Rattle.service.specs.Laws.Soundness.{is-sound, sound-is}
 use Rattle.service.specs.Laws.Storing.{tabled-stands}
 use Rattle.service.specs.Laws.Telling.{none-applies, not-held, unrefused}
 use Rattle.service.specs.Tile.{isKey, keyOf, placedAt}
-use Rattle.service.specs.Told.{Refusal, Told, refuse, refuseHeld}
+use Rattle.service.specs.Told.{Refusal, refuse, refuseHeld}
 use Rattle.service.specs.World.{World, freeBytes, state}
 use Rattle.service.specs.declared.Address.{Address}
+use Rattle.service.specs.declared.Told.{Told}
 use Rattle.rectangles.specs.Claims.{AllDone, Apart, leftBy, operations}
 use Rattle.rectangles.specs.Fitting.{Ahead, Fits, Placed}
 use Rattle.rectangles.specs.Laws.Apart.{first-held-same, needed-same}

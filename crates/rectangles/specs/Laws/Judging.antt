@@ -27,8 +27,9 @@ use Rattle.service.specs.Laws.Storing.{tabled-stands}
 use Rattle.service.specs.Laws.Telling.{Others, Passed, found-is, held-six, holder-told, told-exactly, told-whole}
 use Rattle.service.specs.Limits.{lastJob}
 use Rattle.service.specs.Sound.{soundB}
-use Rattle.service.specs.Told.{Refusal, Told, bare, decided, refuse, refuseHeld}
+use Rattle.service.specs.Told.{Refusal, bare, decided, refuse, refuseHeld}
 use Rattle.service.specs.World.{World, freeBytes, state}
+use Rattle.service.specs.declared.Told.{Told}
 use Rattle.rectangles.specs.Claims.{FirstHeld, Misshapen, Shaped, bytesRunOut, placesRunOut, slotsRunOut}
 use Rattle.rectangles.specs.Laws.Fitting.{first-none}
 use Rattle.rectangles.specs.Laws.Running.{bytes-run-out, places-run-out, slots-run-out}

@@ -30,9 +30,10 @@ use Rattle.service.specs.Laws.Telling.{found-is, held-numbered, held-six
 use Rattle.service.specs.Limits.{lastJob}
 use Rattle.service.specs.Sound.{Entry, changing}
 use Rattle.service.specs.Tile.{keyOf}
-use Rattle.service.specs.Told.{Refusal, Told, decided, done, refuse, refuseHeld}
+use Rattle.service.specs.Told.{Refusal, decided, done, refuse, refuseHeld}
 use Rattle.service.specs.World.{World, freeBytes, state, usedOperations, usedTiles}
 use Rattle.service.specs.declared.Address.{Address}
+use Rattle.service.specs.declared.Told.{Told}
 
 -- THE LAST FOUR TESTS, in their order: whether there is a holder, and three that are true or not
 module _ (o : Option ℕ) (b₇ b₈ b₉ : Bool) (t : Told) (z : t .number ≡ 0) where

@@ -10,7 +10,8 @@ use lib.Dec.{eqb}
 use Rattle.lists.specs.Lists.{All}
 use Rattle.lists.specs.Truth.{both-false, never, or-left, or-right}
 use Rattle.strict.specs.Tiles.{member}
-use Rattle.service.specs.Told.{Refusal, Told, decided, refuseHeld, refused}
+use Rattle.service.specs.Told.{Refusal, decided, refuseHeld, refused}
+use Rattle.service.specs.declared.Told.{Told}
 
 -- refusals that do not apply
 abbrev pub Passed : List Refusal → Type 0
