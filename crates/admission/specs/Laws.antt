@@ -23,7 +23,8 @@ use Rattle.strict.specs.declared.Procedure.{Procedure}
 use Rattle.strict.specs.declared.Rule.{Rule}
 use Rattle.strict.specs.declared.Rule.the-variants.{Alone, Together}
 use Rattle.tiles.specs.Laws.{zeros-table}
-use Rattle.tiles.specs.Table.{TileTable}
+use Rattle.tiles.specs.Table.{TileTable, spotOf}
+use Rattle.tiles.specs.declared.Spot.{Spot}
 use Rattle.admission.specs.Verdicts.{byHolder, verdictOf}
 use Rattle.admission.specs.declared.Verdict.the-variants.{Admitted, Held, NoOperationRoom, NoTileRoom}
 use Rattle.admission.specs.declared.Verdict.{Verdict}
@@ -83,27 +84,27 @@ module _ (places slots : ℕ) (s : State) (job : ℕ) (p : Procedure) (k : ℕ) 
       unfolding verdictOf
       no-slot h = rw (free, place, h)
 
-      pub admitted : lacksSlot ≡ false → Admitted ≡ verdictOf places slots s job p k
+      pub admitted : (x : Spot) → x ≡ spotOf k (s .book .tiles) → lacksSlot ≡ false → Admitted x ≡ verdictOf places slots s job p k
       unfolding verdictOf
-      admitted h = rw (free, place, h)
+      admitted x is h = rw (free, place, h, is)
 
   -- what a verdict means
   abbrev pub Means : Verdict → Type 0
   Means (Held by) = theHolder ≡ some by
   Means NoTileRoom = (theHolder ≡ none) × (lacksPlace ≡ true)
   Means NoOperationRoom = (theHolder ≡ none) × (lacksPlace ≡ false) × (lacksSlot ≡ true)
-  Means Admitted = (theHolder ≡ none) × (lacksPlace ≡ false) × (lacksSlot ≡ false)
+  Means (Admitted x) = (theHolder ≡ none) × (lacksPlace ≡ false) × (lacksSlot ≡ false) × (x ≡ spotOf k (s .book .tiles))
 
   verdict-means : Means (verdictOf places slots s job p k)
   unfolding verdictOf
   verdict-means = go theHolder refl lacksPlace refl lacksSlot refl
     where
       go : (o : Option ℕ) → theHolder ≡ o → (a : Bool) → lacksPlace ≡ a → (b : Bool) → lacksSlot ≡ b
-          → Means (byHolder o (cond a NoTileRoom (cond b NoOperationRoom Admitted)))
+          → Means (byHolder o (cond a NoTileRoom (cond b NoOperationRoom (Admitted (spotOf k (s .book .tiles))))))
       go (some by) x a y b z = x
       go none x true y b z = (x, y)
       go none x false y true z = (x, y, z)
-      go none x false y false z = (x, y, z)
+      go none x false y false z = (x, y, z, refl)
 
   pub verdict-seen : (v u : Verdict) → v ≡ verdictOf places slots s job p k → v ≡ u → Means u
   verdict-seen v u is seen = subst Means (sym is ∙ seen) verdict-means

@@ -1,4 +1,4 @@
--- Whether an operation is admitted, and if not, why
+-- Whether an operation is admitted, and what the search for its tile finds; and if not, why
 use mathlib.Core.Bool.{_&&_, cond}
 use mathlib.Core.Option.{Option, none, some}
 use Prim.Native.Nat.{ℕ}
@@ -8,6 +8,7 @@ use Rattle.service.specs.Admission.{State}
 use Rattle.strict.specs.Book.{heldBy, needsPlace, spokenFor}
 use Rattle.strict.specs.Operations.{begun}
 use Rattle.strict.specs.declared.Procedure.{Procedure}
+use Rattle.tiles.specs.Table.{spotOf}
 use Rattle.admission.specs.declared.Verdict.the-variants.{Admitted, Held, NoOperationRoom, NoTileRoom}
 use Rattle.admission.specs.declared.Verdict.{Verdict}
 
@@ -20,4 +21,4 @@ unfoldable pub verdictOf : ℕ → ℕ → State → ℕ → Procedure → ℕ �
 verdictOf places slots s job p k =
     byHolder (heldBy (s .rule) (s .book) job p k)
     (cond (needsPlace (s .rule) (s .book .table) (begun job p k (s .book .tiles)) && eqb (spokenFor (s .rule) (s .book)) places) NoTileRoom
-    (cond (eqb (length (s .book .table)) slots) NoOperationRoom Admitted))
+    (cond (eqb (length (s .book .table)) slots) NoOperationRoom (Admitted (spotOf k (s .book .tiles)))))

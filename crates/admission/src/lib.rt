@@ -13,10 +13,11 @@ ghost use Rattle.admission.specs.Verdicts.{verdictOf};
 use entries::Holder;
 use service::Session;
 use strict::Procedure;
+use tiles::Spot;
 
-// Whether an operation is admitted, and if not, why.
+// Whether an operation is admitted, and what the search for its tile found; and if not, why.
 pub enum Verdict {
-    Admitted,
+    Admitted(Spot),
     Held(u8),
     NoTileRoom,
     NoOperationRoom,
@@ -97,7 +98,8 @@ pub fn admit(
     let rule = session.rule;
     let count = session.tiles;
     let used = session.operations;
-    let kind = kind(procedure, tiles::is_present(tiles, count, key));
+    let spot = tiles::find(tiles, count, key);
+    let kind = kind(procedure, spot.there);
     let holder = rules::first_holder(rule, operations, used, job, kind, key);
     if let Holder::At(place) = holder {
         return Verdict::Held(entries::job_in(operations[place]));
@@ -108,5 +110,5 @@ pub fn admit(
     if used == operations.len() {
         return Verdict::NoOperationRoom;
     }
-    Verdict::Admitted
+    Verdict::Admitted(spot)
 }

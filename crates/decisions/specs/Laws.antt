@@ -17,12 +17,14 @@ use Rattle.service.specs.Laws.Telling.{decided-done, decided-none, unrefused}
 use Rattle.service.specs.Sound.{Sound, soundB}
 use Rattle.service.specs.Tile.{Placed, addressCall, placed}
 use Rattle.service.specs.Told.{Refusal, bare, decided, done, refuse, refused, told}
-use Rattle.service.specs.World.{World, freeBytes, state}
+use Rattle.service.specs.World.{World, freeBytes, state, usedTiles}
 use Rattle.service.specs.declared.Address.{Address}
 use Rattle.service.specs.declared.Located.the-variants.{Key, Refused}
 use Rattle.service.specs.declared.Reply.the-variants as reply
 use Rattle.service.specs.declared.Reply.{Reply}
 use Rattle.service.specs.declared.Told.{Told}
+use Rattle.tiles.specs.Table.{spotOf}
+use Rattle.tiles.specs.declared.Spot.{Spot}
 use Rattle.admission.specs.Laws.{Means}
 use Rattle.admission.specs.declared.Verdict.the-variants.{Admitted, Held, NoOperationRoom, NoTileRoom}
 use Rattle.admission.specs.declared.Verdict.{Verdict}
@@ -92,11 +94,11 @@ module _ (w : World) (job : ℕ) (p : Procedure) (k : ℕ) where
   pub judges-no-slot : Meaning NoOperationRoom → Judges w job p k (Refuse reply.NoOperationRoom)
   judges-no-slot h = (λ t. rw (h .0, h .1, h .2), refl)
 
-  pub judges-no-bytes : Meaning Admitted → noBytes ≡ true → Judges w job p k (Refuse reply.NoJournalRoom)
-  judges-no-bytes h n = (λ t. rw (h .0, h .1, h .2, n), refl)
+  pub judges-no-bytes : (x : Spot) → Meaning (Admitted x) → noBytes ≡ true → Judges w job p k (Refuse reply.NoJournalRoom)
+  judges-no-bytes x h n = (λ t. rw (h .0, h .1, h .2, n), refl)
 
-  pub judges-perform : Meaning Admitted → noBytes ≡ false → Judges w job p k (Perform k)
-  judges-perform h n = (rw (h .0, h .1, h .2, n), refl)
+  pub judges-perform : (x : Spot) → Meaning (Admitted x) → noBytes ≡ false → Judges w job p k (Perform x)
+  judges-perform x h n = (rw (h .0, h .1, h .2, n), h .3)
 
 -- what a list with a number for each refusal decides, it decides whatever follows it
 pub gate-refuses : (rs : List Refusal) (t u : Told) → eqb (t .number) 0 ≡ true → eqb (decided rs t .number) 0 ≡ false → decided rs t ≡ decided rs u
@@ -140,5 +142,5 @@ module _ (w : World) (job : ℕ) (p : Procedure) (a : Address) where
 
     pub decides-judged : (k : ℕ) (d : Decision) → placed (Key k) ≡ addressCall a → Judges w job p k d → Decides w job p a d
     decides-judged k (Refuse r) h j = (λ t. j .0 t ∙ after-gate (placed (Key k)) h t, j .1)
-    decides-judged k (Perform n) h j =
-        (refused-append (endRefusals w job) rest (gate-passed gate is zero) (ap (λ (x : Placed). refused (following x)) (sym h) ∙ j .0), j .1 ∙ ap (λ (x : Placed). x .key) h)
+    decides-judged k (Perform spot) h j =
+        (refused-append (endRefusals w job) rest (gate-passed gate is zero) (ap (λ (x : Placed). refused (following x)) (sym h) ∙ j .0), j .1 ∙ ap (λ (x : Placed). spotOf (x .key) (usedTiles w)) h)

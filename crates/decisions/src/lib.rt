@@ -14,11 +14,12 @@ use service::Reply;
 use service::Session;
 use service::Told;
 use strict::Procedure;
+use tiles::Spot;
 
-// What an operation comes to: a refusal, or the key on which it is to be performed.
+// What an operation comes to: a refusal, or the key on which it is to be performed, with what the search for it found.
 pub enum Decision {
     Refuse(Reply),
-    Perform(u32),
+    Perform(Spot),
 }
 
 // A number whose other fields are 0.
@@ -135,12 +136,12 @@ fn judge_keyed(
         Verdict::Held(holder) => Decision::Refuse(Reply::Held(holder)),
         Verdict::NoTileRoom => Decision::Refuse(Reply::NoTileRoom),
         Verdict::NoOperationRoom => Decision::Refuse(Reply::NoOperationRoom),
-        Verdict::Admitted => {
+        Verdict::Admitted(spot) => {
             let used = session.journal;
             if journal.len() - used < 10 + 4 * scans::open_jobs(session) {
                 return Decision::Refuse(Reply::NoJournalRoom);
             }
-            Decision::Perform(key)
+            Decision::Perform(spot)
         }
     }
 }

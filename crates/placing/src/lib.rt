@@ -194,7 +194,9 @@ fn place_all(
     let mut reached = session;
     let mut i: usize = 0;
     while i < n {
-        let done = jobs::carry_out(reached, tiles, operations, journal, job, procedure, keys[i]);
+        let count = reached.tiles;
+        let spot = tiles::find(tiles, count, keys[i]);
+        let done = jobs::carry_out(reached, tiles, operations, journal, job, procedure, spot);
         reached = done.session;
         i += 1;
     }

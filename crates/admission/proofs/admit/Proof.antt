@@ -4,7 +4,7 @@ use mathlib.Core.Option.{Option, none, some}
 use mathlib.Core.Path.{_∙_, _≡_, ap, sym}
 use Prim.Native.Nat.{_<_, ℕ}
 use native.Mathlib.Omega.{arith}
-use lib.ListN.{length}
+use lib.ListN.{length, take}
 use lib.Seq.{getD-take, length-take-le}
 use borrow.Author.Needs.{needs}
 use borrow.Author.Tests.{eq-eqb, ne-eqb}
@@ -17,6 +17,8 @@ use Rattle.service.specs.Entry.{jobIn, opIn}
 use Rattle.service.specs.Laws.Entries.{kind-range}
 use Rattle.service.specs.World.{World, state, usedOperations, usedTiles, world}
 use Rattle.strict.specs.Operations.{kind}
+use Rattle.strict.specs.Tiles.{member}
+use Rattle.tiles.specs.declared.Spot.{Spot}
 use Rattle.admission.proofs.admit.Statement.{statement}
 use Rattle.admission.proofs.admit.Tie as tie
 use Rattle.admission.specs.Laws.{admitted, held, lacksPlace, no-place, no-slot, operations-count, theHolder, tile-table}
@@ -25,12 +27,15 @@ use Rattle.admission.specs.Laws.{admitted, held, lacksPlace, no-place, n
 abbrev given : tie.After-first-holder → World
 given c = let a = c .before .before .before .before .before .args in world (a .session) (now (a .tiles)) (now (a .operations)) []
 
+found : (c : tie.After-find) → let a = c .before .before .before .args in c .find .result .there ≡ member (a .key) (take (a .session .tiles) (now (a .tiles)))
+found c = ap (λ (x : Spot). x .there) (c .find .ensures)
+
 held-by : (c : tie.After-first-holder)
     → let a = c .before .before .before .before .before .args in
     theHolder (length (now (a .tiles))) (length (now (a .operations))) (state (given c)) (a .job) (a .procedure) (a .key) ≡ jobAt (usedOperations (given c)) (c .first-holder .result)
 held-by c =
     let a = c .before .before .before .before .before .args in
-    let of-kind = ap (λ n. firstPlace (holdsBy (a .session .rule) (a .job) n (a .key)) (usedOperations (given c))) (c .before .kind .ensures ∙ ap (kind (a .procedure)) (c .before .before .is-present .ensures)) in
+    let of-kind = ap (λ n. firstPlace (holdsBy (a .session .rule) (a .job) n (a .key)) (usedOperations (given c))) (c .before .kind .ensures ∙ ap (kind (a .procedure)) (found (c .before .before))) in
     held-place (a .job) (a .procedure) (a .key) (usedTiles (given c)) (a .session .rule) (usedOperations (given c))
     ∙ ap (jobAt (usedOperations (given c))) (sym (c .first-holder .ensures ∙ of-kind))
 
@@ -56,20 +61,20 @@ lacks c =
     let f = c .before .before .before in
     let w = given f in
     let a = c .before .before .before .before .before .before .before .before .args in
-    rw (place-wanted (a .job) (a .procedure) (a .key) (usedTiles w) (w .session .rule) (state w .book .table), c .lacks-place .ensures, f .before .kind .ensures, f .before .before .is-present .ensures)
+    rw (place-wanted (a .job) (a .procedure) (a .key) (usedTiles w) (w .session .rule) (state w .book .table), c .lacks-place .ensures, f .before .kind .ensures, found (f .before .before))
 
 slots : (c : tie.After-lacks-place) → let w = given (c .before .before .before) in length (map opIn (usedOperations w)) ≡ w .session .operations
 slots c = let f = c .before .before .before in operations-count (given f) (f .before .before .before .before .before .pre)
 
-is-present-requires : tie.Need-is-present-requires
-is-present-requires c κs = tile-table _ (c .before .before .pre)
+find-requires : tie.Need-find-requires
+find-requires c κs = tile-table _ (c .before .before .pre)
 
 kind-requires : tie.Need-kind-requires
 kind-requires c κs = search needs
 
 first-holder-requires : tie.Need-first-holder-requires
 first-holder-requires c κs =
-    let range = kind-range (c .before .before .before .before .args .procedure) (c .before .is-present .result) in
+    let range = kind-range (c .before .before .before .before .args .procedure) (c .before .find .result .there) in
     (c .before .before .before .before .pre .operations-fit, rw (c .kind .ensures) (range .0), rw (c .kind .ensures) (range .1))
 
 enum-known-holder : tie.Need-enum-known-holder
@@ -106,13 +111,13 @@ returns-3 : tie.Need-returns-3
 returns-3 c = no-slot _ _ _ _ _ _ (free (c .before .before .before)) (lacks (c .before .before) ∙ c .before .if1 .left) (rw (slots (c .before .before)) (eq-eqb _ _ (c .if2 .taken)))
 
 returns-4 : tie.Need-returns-4
-returns-4 c = admitted _ _ _ _ _ _ (free (c .before .before .before)) (lacks (c .before .before) ∙ c .before .if1 .left) (rw (slots (c .before .before)) (ne-eqb _ _ (c .if2 .left)))
+returns-4 c = admitted _ _ _ _ _ _ (free (c .before .before .before)) (lacks (c .before .before) ∙ c .before .if1 .left) _ (c .before .before .before .before .before .before .before .find .ensures) (rw (slots (c .before .before)) (ne-eqb _ _ (c .if2 .left)))
 
 pub admit-spec : {M : Type 1} → statement M
 admit-spec =
     tie.close
     (tie.spec
-    is-present-requires
+    find-requires
     kind-requires
     first-holder-requires
     enum-known-holder

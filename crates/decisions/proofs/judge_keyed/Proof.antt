@@ -6,7 +6,7 @@ use borrow.Author.Needs.{needs}
 use borrow.Author.Tests.{le-ltb, lt-ltb}
 use denote.Ref.{now}
 use Rattle.admission.specs.Laws.{verdict-seen}
-use Rattle.admission.specs.declared.Verdict.the-variants.{Admitted, NoOperationRoom, NoTileRoom}
+use Rattle.admission.specs.declared.Verdict.the-variants.{NoOperationRoom, NoTileRoom}
 use Rattle.admission.specs.declared.Verdict.{Verdict}
 use Rattle.service.specs.Admission.{openMarks}
 use Rattle.service.specs.Laws.Soundness.{retabled}
@@ -38,11 +38,11 @@ enum-told c = search needs
 enum-told-2 : tie.Need-enum-told-2
 enum-told-2 c = search needs
 
-enum-told-3 : tie.Need-enum-told-3
-enum-told-3 c = search needs
+enum-known-spot : tie.Need-enum-known-spot
+enum-known-spot c = search needs
 
 sub-if1 : tie.Need-sub-if1
-sub-if1 c = c .before .before .before .before .before .before .pre .journal-fits
+sub-if1 c = c .before .before .before .before .before .before .before .pre .journal-fits
 
 open-jobs-requires : tie.Need-open-jobs-requires
 open-jobs-requires c κs = search needs
@@ -55,8 +55,9 @@ add-if1 c = search needs
 
 returns : tie.Need-returns
 returns c =
-    let s = c .before .before .before .before .before .before .before .before in
-    judges-no-bytes (given s) (s .args .job) (s .args .procedure) (s .args .key) (meaning (c .before .before .before .before) Admitted (c .before .before .enum-told3 .given .1))
+    let seen = c .before .before .before in
+    let s = seen .before .before .before .before .before .before in
+    judges-no-bytes (given s) (s .args .job) (s .args .procedure) (s .args .key) _ (meaning (seen .before .before) _ (seen .spot .given .1))
     (lt-ltb _ (10 + 4 * openMarks (s .args .session .marks)) (rw (sym (c .before .open-jobs .ensures .0)) (c .if1 .taken)))
 
 returns-2 : tie.Need-returns-2
@@ -76,8 +77,9 @@ returns-4 c =
 
 returns-5 : tie.Need-returns-5
 returns-5 c =
-    let s = c .before .before .before .before .before .before .before .before in
-    judges-perform (given s) (s .args .job) (s .args .procedure) (s .args .key) (meaning (c .before .before .before .before) Admitted (c .before .before .enum-told3 .given .1))
+    let seen = c .before .before .before in
+    let s = seen .before .before .before .before .before .before in
+    judges-perform (given s) (s .args .job) (s .args .procedure) (s .args .key) _ (meaning (seen .before .before) _ (seen .spot .given .1))
     (le-ltb _ (10 + 4 * openMarks (s .args .session .marks)) (rw (sym (c .before .open-jobs .ensures .0)) (c .if1 .left)))
 
 pub judge-keyed-spec : {M : Type 1} → statement M
@@ -88,7 +90,7 @@ judge-keyed-spec =
     enum-known-holder
     enum-told
     enum-told-2
-    enum-told-3
+    enum-known-spot
     sub-if1
     open-jobs-requires
     mul-if1

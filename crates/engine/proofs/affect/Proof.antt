@@ -12,7 +12,7 @@ enum-told c = search needs
 put-requires : tie.Need-put-requires
 put-requires c κs =
     let start = c .before .before .before .before in
-    (start .pre .0, place-for (start .pre .0) (start .args .key) (rw (c .before .enum-told .given .1) at (start .pre .1)))
+    (start .pre .0, start .pre .1, place-for (start .pre .0) (start .args .spot .key) (rw (c .before .enum-told .given .1) at (start .pre .2)))
 
 enum-told-2 : tie.Need-enum-told-2
 enum-told-2 c = search needs

@@ -1,8 +1,11 @@
 -- `engine::recover` meets its contract: by the entry's kind
-use mathlib.Core.Path.{_∙_, _≡_, sym}
+use mathlib.Core.Path.{_∙_, _≡_, ap, sym}
+use lib.ListN.{take}
 use borrow.Author.Needs.{needs}
+use denote.Ref.{now}
 use Rattle.service.specs.Entry.{kindIn}
-use Rattle.tiles.specs.Laws.{used-length}
+use Rattle.tiles.specs.Laws.{spot-named, used-length}
+use Rattle.tiles.specs.declared.Spot.{Spot}
 use Rattle.engine.proofs.Laws.{place-for, recovered-one, recovered-other, recovered-three}
 use Rattle.engine.proofs.recover.Statement.{statement}
 use Rattle.engine.proofs.recover.Tie as tie
@@ -17,26 +20,42 @@ kind-in-requires c κs = search needs
 key-in-requires : tie.Need-key-in-requires
 key-in-requires c κs = search needs
 
+find-requires : tie.Need-find-requires
+find-requires c κs = search needs
+
 clear-requires : tie.Need-clear-requires
-clear-requires c κs = search needs
+clear-requires c κs =
+    let start = c .before .before .before .before .before .before .before in
+    (start .pre .0, spot-named (take (start .args .count) (now (start .args .tiles))) _ _ (c .before .find .ensures))
 
 same-length : tie.Need-same-length
 same-length c = search needs
 
 returns : tie.Need-returns
-returns c = rw (recovered-one _ _ (kind-is (c .before .before .before .before .before) ∙ c .before .before .before .before .if1 .taken), ← c .before .before .before .before .before .key-in .ensures) (c .before .before .clear .ensures)
+returns c =
+    let f = c .before .before .before .before in
+    let k = f .before .before .before in
+    rw (recovered-one _ _ (kind-is k ∙ f .before .before .if1 .taken), ← k .key-in .ensures, ← ap (λ (x : Spot). x .key) (f .find .ensures)) (c .before .before .clear .ensures)
+
+find-requires-2 : tie.Need-find-requires-2
+find-requires-2 c κs = search needs
 
 put-requires : tie.Need-put-requires
 put-requires c κs =
-    let start = c .before .before .before .before .before .before in
-    let fits = rw (recovered-three _ _ (kind-is (c .before .before .before) ∙ c .before .if2 .taken), ← c .before .before .before .key-in .ensures) at (start .pre .1) in
-    (start .pre .0, place-for (start .pre .0) (c .before .before .before .key-in .result) fits)
+    let f = c .before in
+    let k = f .before .before .before .before in
+    let start = k .before .before .before in
+    let fits = rw (recovered-three _ _ (kind-is k ∙ f .before .before .if2 .taken), ← k .key-in .ensures, ← ap (λ (x : Spot). x .key) (f .find2 .ensures)) at (start .pre .1) in
+    (start .pre .0, spot-named (take (start .args .count) (now (start .args .tiles))) _ _ (f .find2 .ensures), place-for (start .pre .0) (f .find2 .result .key) fits)
 
 same-length-2 : tie.Need-same-length-2
 same-length-2 c = search needs
 
 returns-2 : tie.Need-returns-2
-returns-2 c = rw (recovered-three _ _ (kind-is (c .before .before .before .before .before .before) ∙ c .before .before .before .before .if2 .taken), ← c .before .before .before .before .before .before .key-in .ensures) (c .before .before .put .ensures)
+returns-2 c =
+    let f = c .before .before .before .before in
+    let k = f .before .before .before .before in
+    rw (recovered-three _ _ (kind-is k ∙ f .before .before .if2 .taken), ← k .key-in .ensures, ← ap (λ (x : Spot). x .key) (f .find2 .ensures)) (c .before .before .put .ensures)
 
 returns-3 : tie.Need-returns-3
 returns-3 c =
@@ -50,9 +69,11 @@ recover-spec =
     (tie.spec
     kind-in-requires
     key-in-requires
+    find-requires
     clear-requires
     same-length
     returns
+    find-requires-2
     put-requires
     same-length-2
     returns-2

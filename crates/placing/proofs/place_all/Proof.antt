@@ -1,13 +1,19 @@
 -- `placing::place_all` meets its contract: what is ahead at each turn is what was ahead at the first
-use mathlib.Core.Path.{ap}
-use Prim.Native.Nat.{_-_, _≤_}
+use mathlib.Core.Path.{_∙_, _≡_, ap, subst, sym}
+use Prim.Native.Nat.{_-_, _≤_, ℕ}
 use native.Mathlib.Omega.{arith}
-use lib.ListN.{length, take}
+use lib.ListN.{getD, length, take}
 use lib.Seq.{slice}
 use denote.Ref.{now}
+use Rattle.admission.specs.Laws.{tile-table}
 use Rattle.rectangles.specs.Fitting.{Ahead}
 use Rattle.rectangles.specs.Laws.Fitting.{pass-may, pass-more, pass-over}
-use Rattle.service.specs.World.{Reported, world}
+use Rattle.service.specs.Calls.{carried}
+use Rattle.service.specs.Laws.Accepting.{Passes}
+use Rattle.service.specs.World.{Reported, World, usedTiles, world}
+use Rattle.strict.specs.Histories.{operation}
+use Rattle.tiles.specs.Laws.{spot-named}
+use Rattle.tiles.specs.declared.Spot.{Spot}
 use Rattle.placing.proofs.place_all.Statement.{statement}
 use Rattle.placing.proofs.place_all.Tie as tie
 
@@ -22,17 +28,40 @@ abbrev μ-loop : tie.MeasureT-loop
 loop-holds : tie.Need-loop-holds Inv-loop μ-loop
 loop-holds c = let s = c .before .before .before .before in (omega arith, s .pre .0, s .pre .1)
 
-mul-carry-out : tie.Need-mul-carry-out Inv-loop μ-loop
-mul-carry-out c = omega arith
+-- the tables at a turn, and the key that is next
+abbrev reached : tie.In-loop Inv-loop μ-loop → World
+reached c = let l = c .before .loop in world (l .reached) (l .tiles) (l .operations) (l .journal)
 
-shared-slice-read-carry-out : tie.Need-shared-slice-read-carry-out Inv-loop μ-loop
-shared-slice-read-carry-out c = omega arith
+abbrev next : tie.In-loop Inv-loop μ-loop → ℕ
+next c = getD (now (c .before .before .before .before .before .before .args .keys)) (c .before .loop .i) 0
+
+may : (c : tie.In-loop Inv-loop μ-loop)
+    → let a = c .before .before .before .before .before .before .args in
+    Passes (reached c) (operation (a .job) (a .procedure) (next c))
+may c =
+    let l = c .before .loop in
+    let a = c .before .before .before .before .before .before .args in
+    pass-may (now (a .keys)) (a .n) (l .i) (l .inv .2) (l .inv .1) (omega arith)
+
+-- the spot is that of the key
+key-found : (f : tie.After-find Inv-loop μ-loop) → f .find .result .key ≡ next (f .before .before .before)
+key-found f = ap (λ (x : Spot). x .key) (f .find .ensures)
+
+mul-find : tie.Need-mul-find Inv-loop μ-loop
+mul-find c = omega arith
+
+shared-slice-read-find : tie.Need-shared-slice-read-find Inv-loop μ-loop
+shared-slice-read-find c = omega arith
+
+find-requires : tie.Need-find-requires Inv-loop μ-loop
+find-requires c κs = let g = c .before .before in tile-table (reached g) (may g .sound-before .tables)
 
 carry-out-requires : tie.Need-carry-out-requires Inv-loop μ-loop
 carry-out-requires c κs =
-    let l = c .before .before .before .before .before .loop in
-    let a = c .before .before .before .before .before .before .before .before .before .before .args in
-    pass-may (now (a .keys)) (a .n) (l .i) (l .inv .2) (l .inv .1) (omega arith)
+    let f = c .before .before .before in
+    let g = f .before .before .before in
+    let a = g .before .before .before .before .before .before .args in
+    (subst (λ k. Passes (reached g) (operation (a .job) (a .procedure) k)) (sym (key-found f)) (may g), spot-named (usedTiles (reached g)) _ _ (f .find .ensures))
 
 add-i : tie.Need-add-i Inv-loop μ-loop
 add-i c = omega arith
@@ -43,9 +72,12 @@ loop-less c = omega arith
 loop-again : tie.Need-loop-again Inv-loop μ-loop
 loop-again c =
     let d = c .before .before .before .before .before .before .before in
-    let l = d .before .before .before .before .before .before .loop in
-    let a = d .before .before .before .before .before .before .before .before .before .before .before .args in
-    (omega arith, l .inv .1, pass-more (now (a .keys)) (a .n) (l .i) (l .inv .2) (l .inv .1) (omega arith) _ (ap (λ (x : Reported). x .after) (d .carry-out .ensures)))
+    let f = d .before .before .before .before in
+    let g = f .before .before .before in
+    let l = g .before .loop in
+    let a = g .before .before .before .before .before .before .args in
+    let after = ap (λ (x : Reported). x .after) (d .carry-out .ensures) ∙ ap (λ k. carried (reached g) (operation (a .job) (a .procedure) k)) (key-found f) in
+    (omega arith, l .inv .1, pass-more (now (a .keys)) (a .n) (l .i) (l .inv .2) (l .inv .1) (omega arith) _ after)
 
 same-length : tie.Need-same-length Inv-loop μ-loop
 same-length c = c .before .loop .inv .2 .same-places
@@ -69,8 +101,9 @@ place-all-spec =
     Inv-loop
     μ-loop
     loop-holds
-    mul-carry-out
-    shared-slice-read-carry-out
+    mul-find
+    shared-slice-read-find
+    find-requires
     carry-out-requires
     add-i
     loop-less

@@ -5,7 +5,7 @@ use denote.Ref.{now}
 use Rattle.service.specs.World.{World, world}
 use Rattle.sanbirogu.proofs.operation.Statement.{statement}
 use Rattle.sanbirogu.proofs.operation.Tie as tie
-use Rattle.sanbirogu.specs.Laws.{carried-decided, passes-decided, refusal-decided}
+use Rattle.sanbirogu.specs.Laws.{carried-decided, passes-decided, refusal-decided, spot-decided}
 
 -- what the function was given
 abbrev given : tie.Start → World
@@ -17,13 +17,15 @@ operation-decision-requires c κs = search needs
 enum-known-reply : tie.Need-enum-known-reply
 enum-known-reply c = search needs
 
-enum-known-key : tie.Need-enum-known-key
-enum-known-key c = search needs
+enum-known-spot : tie.Need-enum-known-spot
+enum-known-spot c = search needs
 
 carry-out-requires : tie.Need-carry-out-requires
 carry-out-requires c κs =
     let s = c .before .before .before .before .before .before .before .before .before .before .before .before .before in
-    passes-decided (given s) (s .args .job) (s .args .procedure) (s .args .address) _ (c .before .before .before .before .before .before .operation-decision .ensures) _ (c .before .before .before .before .key .given .1)
+    let decides = c .before .before .before .before .before .before .operation-decision .ensures in
+    let is = c .before .before .before .before .spot .given .1 in
+    (passes-decided (given s) (s .args .job) (s .args .procedure) (s .args .address) _ decides _ is, spot-decided (given s) (s .args .job) (s .args .procedure) (s .args .address) _ decides _ is)
 
 same-length : tie.Need-same-length
 same-length c = search needs
@@ -51,11 +53,11 @@ same-length-6 c = search needs
 returns-2 : tie.Need-returns-2
 returns-2 c =
     let done = c .before .before .before .before .before .before in
-    let key = done .before .before .before .before .before in
-    let decided = key .before .before in
+    let spot = done .before .before .before .before .before in
+    let decided = spot .before .before in
     let s = decided .before .before .before .before .before .before .before in
     done .carry-out .ensures
-    ∙ carried-decided (given s) (s .args .job) (s .args .procedure) (s .args .address) _ (decided .operation-decision .ensures) _ (key .key .given .1)
+    ∙ carried-decided (given s) (s .args .job) (s .args .procedure) (s .args .address) _ (decided .operation-decision .ensures) _ (spot .spot .given .1)
 
 pub operation-spec : {M : Type 1} → statement M
 operation-spec =
@@ -63,7 +65,7 @@ operation-spec =
     (tie.spec
     operation-decision-requires
     enum-known-reply
-    enum-known-key
+    enum-known-spot
     carry-out-requires
     same-length
     same-length-2
