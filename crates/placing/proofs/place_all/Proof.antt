@@ -9,7 +9,7 @@ use Rattle.admission.specs.Laws.{tile-table}
 use Rattle.rectangles.specs.Fitting.{Ahead}
 use Rattle.rectangles.specs.Laws.Fitting.{pass-may, pass-more, pass-over}
 use Rattle.service.specs.Calls.{carried}
-use Rattle.service.specs.Laws.Accepting.{Passes}
+use Rattle.service.specs.Claims.{Passes}
 use Rattle.service.specs.World.{Reported, World, usedTiles, world}
 use Rattle.strict.specs.Histories.{operation}
 use Rattle.tiles.specs.Laws.{spot-named}
