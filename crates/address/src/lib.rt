@@ -1,10 +1,11 @@
 // Tile addresses and their keys. What they promise is in service's specs/Tile.antt.
 ghost use mathlib.Core.Path.{_≡_};
-ghost use Prim.Native.Nat.{_^_, _≤_, _<_};
-ghost use Rattle.service.specs.Tile.{around, keyAt, isKey, placed, placedAt, addressCall};
+ghost use Prim.Native.Nat.{_<_, _^_, _≤_};
+ghost use Rattle.service.specs.Tile.{addressCall, around, isKey, keyAt, placed, placedAt, positionIn};
 ghost use Rattle.address.specs.Columns.{columnsByZoom};
 use service::Address;
 use service::Located;
+use service::Position;
 
 // A level of the map: 2^zoom columns, counted eastward from 180 degrees west, and as many rows from the north.
 pub struct Level {
@@ -125,4 +126,15 @@ pub fn locate(a: Address) -> Located
 {
     let level = Level { zoom: a.zoom };
     level.key(a.column, a.row)
+}
+
+// Zoom, column and row of a key.
+pub fn split(key: u32) -> Position
+    ensures { λ r. ⌜ r ≡ positionIn key ⌝ }
+{
+    Position {
+        zoom: key / 268435456,
+        column: key % 268435456 / 16384,
+        row: key % 16384,
+    }
 }

@@ -9,7 +9,7 @@ use borrow.Author.Tests.{eqb-true, le-ltb, lt-ltb, not-false}
 use Rattle.lists.specs.Truth.{never}
 use Rattle.strict.specs.declared.Procedure.{Procedure}
 use Rattle.service.specs.Admission.{isOpen, openMarks}
-use Rattle.service.specs.Calls.{endRefusals, openRefusals, operationRefusals}
+use Rattle.service.specs.Calls.{endRefusals, keyedRefusals, openRefusals, operationRefusals}
 use Rattle.service.specs.History.{committing}
 use Rattle.service.specs.Laws.Accepting.{numbered}
 use Rattle.service.specs.Laws.Soundness.{sound-is}
@@ -28,7 +28,7 @@ use Rattle.tiles.specs.declared.Spot.{Spot}
 use Rattle.admission.specs.Laws.{Means}
 use Rattle.admission.specs.declared.Verdict.the-variants.{Admitted, Held, NoOperationRoom, NoTileRoom}
 use Rattle.admission.specs.declared.Verdict.{Verdict}
-use Rattle.decisions.specs.Decides.{Decides, Judges, lastRefusals}
+use Rattle.decisions.specs.Decides.{Decides, Judges}
 use Rattle.decisions.specs.declared.Decision.the-variants.{Perform, Refuse}
 use Rattle.decisions.specs.declared.Decision.{Decision}
 
@@ -113,7 +113,7 @@ gate-refuses (r ∷ rs) t u z n = go (r .applies) n (gate-refuses rs t u z)
 -- AN OPERATION: its first three refusals are those of an end, then 5, then the last
 module _ (w : World) (job : ℕ) (p : Procedure) (a : Address) where
   abbrev rest : List Refusal
-  rest = refuse 5 (eqb (addressCall a .number) 5) ∷ lastRefusals w job p (addressCall a .key)
+  rest = refuse 5 (eqb (addressCall a .number) 5) ∷ keyedRefusals w job p (addressCall a .key)
 
   -- where the gate refuses
   pub decides-gate : (r : Reply) → told r ≡ decided (endRefusals w job) (done false) → eqb (told r .number) 0 ≡ false → Decides w job p a (Refuse r)
@@ -130,7 +130,7 @@ module _ (w : World) (job : ℕ) (p : Procedure) (a : Address) where
     passed-sound = sound-is w (not-false (soundB w) (unrefused (endRefusals w job) (gate-passed gate is zero) .0))
 
     abbrev following : Placed → List Refusal
-    following x = refuse 5 (eqb (x .number) 5) ∷ lastRefusals w job p (x .key)
+    following x = refuse 5 (eqb (x .number) 5) ∷ keyedRefusals w job p (x .key)
 
     after-gate : (x : Placed) → x ≡ addressCall a → (t : Told) → decided (following x) t ≡ decided (operationRefusals w job p a) t
     after-gate x same t =

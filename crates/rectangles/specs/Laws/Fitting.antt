@@ -18,15 +18,15 @@ use Rattle.strict.specs.Laws.Room.{room-operation}
 use Rattle.strict.specs.Operations.{begun}
 use Rattle.strict.specs.declared.Procedure.{Procedure}
 use Rattle.service.specs.Admission.{State, admission, answerTo, openMarks, refusals}
-use Rattle.service.specs.Calls.{carried, operationRefusals}
-use Rattle.service.specs.Claims.{Passes, Serves}
+use Rattle.service.specs.Calls.{carried, keyedRefusals, operationRefusals}
+use Rattle.service.specs.Claims.{Passes, Serves, operationBytes}
 use Rattle.service.specs.History.{Call, call, event, operating}
 use Rattle.service.specs.Journal.{encode, recordOf}
-use Rattle.service.specs.Laws.Accepting.{carried-places, carried-slots, carried-sound, carried-state, left-carried, none-told, passed, passes, record-size}
+use Rattle.service.specs.Laws.Accepting.{accepted, carried-places, carried-slots, carried-sound, carried-state, left-carried, none-told, passed, passes, record-size, serves-is}
 use Rattle.service.specs.Laws.Keys.{key-valid}
 use Rattle.service.specs.Laws.Soundness.{is-sound, sound-is}
 use Rattle.service.specs.Laws.Storing.{tabled-stands}
-use Rattle.service.specs.Laws.Telling.{none-applies, not-held, unrefused}
+use Rattle.service.specs.Laws.Telling.{Passed, none-applies, not-held, unrefused}
 use Rattle.service.specs.Tile.{isKey, keyOf, placedAt}
 use Rattle.service.specs.Told.{Refusal, refuse, refuseHeld}
 use Rattle.service.specs.World.{World, freeBytes, state}
@@ -46,12 +46,6 @@ room-free : (b : Bool) (places n : ℕ) → n + oneIf b ≤ places → b && eqb 
 room-free true places n l = ne-eqb n places (λ e. omega arith)
 room-free false places n l = refl
 
--- the last four checks of an operation
-abbrev lastRefusals : World → ℕ → Procedure → Address → List Refusal
-lastRefusals w job p a =
-    admission (length (w .tiles)) (length (w .operations)) (state w) job p (keyFor a)
-    ++ (refuse 9 (ltb (freeBytes w) (10 + 4 * openMarks (w .session .marks))) ∷ [])
-
 module _ (w : World) (job : ℕ) (p : Procedure) (a : Address) where
   abbrev one : Call
   one = operating job p a
@@ -63,12 +57,10 @@ module _ (w : World) (job : ℕ) (p : Procedure) (a : Address) where
       let h = first-none (heldBy (w .session .rule) m job p (keyFor a)) (firstHeld (w .session .rule) m job p ks) (f .unheld) .0 in
       let room = room-free (needsPlace (w .session .rule) (m .table) (begun job p (keyFor a) (m .tiles))) (length (w .tiles)) (spokenFor (w .session .rule) m) (let x = f .places in omega arith) in
       let slot = ne-eqb (length (m .table)) (length (w .operations)) (λ e. let x = f .slots in omega arith) in
-      let bytes = le-ltb (freeBytes w) (10 + 4 * openMarks (w .session .marks)) (let x = f .bytes in omega arith) in
-      let last : All (λ r. r .applies ≡ false) (lastRefusals w job p a) = (ap (λ o. refuseHeld o .applies) h, (room, (slot, (bytes, tt)))) in
-      ap (λ (t : Told). t .number)
-      (none-told w one
-      (none-applies (operationRefusals w job p a)
-      (ap not (f .ready .is-sound-there), (le-ltb 63 job (f .ready .small), (ap not (f .ready .is-open), (placed, last))))))
+      let bytes = le-ltb (freeBytes w) (operationBytes w) (let x = f .bytes in omega arith) in
+      let last : Passed (keyedRefusals w job p (keyFor a)) = (ap (λ o. refuseHeld o .applies) h, (room, (slot, (bytes, tt)))) in
+      let v = serves-is w job .1 (f .ready) in
+      accepted w one .1 (v .0, (v .1 .0, (v .1 .1 .0, (placed, last))))
 
 -- what an operation that may happen leaves fits the rest just where the world fits the list
 module _ (w : World) (job : ℕ) (p : Procedure) (k : ℕ) (full : length (w .session .marks) ≡ 64) (may : Passes w (operation job p k)) where

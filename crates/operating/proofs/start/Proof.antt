@@ -1,4 +1,4 @@
--- `sanbirogu::start` meets its contract: by whether the tables can start, and then by the room for the rule's bytes
+-- `operating::start` meets its contract: by whether the tables can start, and then by the room for the rule's bytes
 use mathlib.Core.Bool.{true}
 use mathlib.Core.Path.{_∙_, _≡_, ap}
 use native.Mathlib.Omega.{arith}
@@ -8,9 +8,9 @@ use Rattle.lists.specs.Truth.{test-fails, test-passes}
 use Rattle.service.specs.Calls.{advancedBy, startWorld}
 use Rattle.service.specs.Sound.{soundB}
 use Rattle.service.specs.declared.Session.{Session}
-use Rattle.sanbirogu.specs.Laws.{rule-small, start-done, start-short, start-unsound}
-use Rattle.sanbirogu.proofs.start.Statement.{statement}
-use Rattle.sanbirogu.proofs.start.Tie as tie
+use Rattle.operating.specs.Laws.{rule-small, start-done, start-short, start-unsound}
+use Rattle.operating.proofs.start.Statement.{statement}
+use Rattle.operating.proofs.start.Tie as tie
 
 -- behind the first test the start is sound
 sound : (c : tie.Else1) →

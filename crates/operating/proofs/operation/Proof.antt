@@ -1,11 +1,11 @@
--- `sanbirogu::operation` meets its contract: as its decision says
+-- `operating::operation` meets its contract: as its decision says
 use mathlib.Core.Path.{_∙_}
 use borrow.Author.Needs.{needs}
 use denote.Ref.{now}
 use Rattle.service.specs.World.{World, world}
-use Rattle.sanbirogu.proofs.operation.Statement.{statement}
-use Rattle.sanbirogu.proofs.operation.Tie as tie
-use Rattle.sanbirogu.specs.Laws.{carried-decided, passes-decided, refusal-decided, spot-decided}
+use Rattle.operating.specs.Laws.{carried-decided, passes-decided, refusal-decided, spot-decided}
+use Rattle.operating.proofs.operation.Statement.{statement}
+use Rattle.operating.proofs.operation.Tie as tie
 
 -- what the function was given
 abbrev given : tie.Start → World
