@@ -20,6 +20,16 @@ pub fn print_number(n: u64) {
     io::print_decimal(STDOUT_FILENO, n);
 }
 
+// A number with its name before it.
+pub fn print_named(name: &[u8], n: u64) {
+    print(name);
+    print_number(n);
+}
+
+pub fn print_line_end() {
+    print(b"\n");
+}
+
 pub fn complain(text: &[u8]) {
     io::write_all(STDERR_FILENO, text);
 }
@@ -37,8 +47,8 @@ pub fn print_tile(key: u32, between: &[u8]) {
     print_number((key % 16384) as u64);
 }
 
-// One read into the places from `from` on.
-fn read_some(space: &mut [u8], from: usize) -> Input
+// One read into the places from `from` on: what is there by now, at a terminal a line. No byte comes where the input has ended.
+pub fn read_some(space: &mut [u8], from: usize) -> Input
     requires { ⌜ from ≤ length (now space) ⌝ }
     ensures { λ r. ⌜ Within r (length (now (space .entry)) - from) ⌝ }
 {

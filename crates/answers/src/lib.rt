@@ -1,0 +1,115 @@
+// What the calls answer, as the programs print it: numbers with their names, on one line.
+use mends::Mended;
+use service::Located;
+use service::Operation;
+use service::Read;
+use service::Record;
+use service::Replayed;
+use service::Reply;
+use terminal::print;
+use terminal::print_line_end;
+use terminal::print_named;
+
+// After this beginning.
+pub fn print_reply(beginning: &[u8], reply: Reply) {
+    print_named(beginning, decisions::number(reply) as u64);
+    print_named(b" answer ", decisions::answer(reply) as u64);
+    print_named(b" holder ", decisions::holder(reply) as u64);
+    print_line_end();
+}
+
+// A rectangle has no answer.
+pub fn print_whole(reply: Reply) {
+    print_named(b"reply ", decisions::number(reply) as u64);
+    print_named(b" holder ", decisions::holder(reply) as u64);
+    print_line_end();
+}
+
+// The address step, after this beginning. The key is 0 where it refuses.
+pub fn print_located(beginning: &[u8], located: Located) {
+    match located {
+        Located::Key(key) => {
+            print_named(beginning, 0);
+            print_named(b" key ", key as u64);
+        }
+        Located::Refused => {
+            print_named(beginning, 5);
+            print_named(b" key ", 0);
+        }
+    }
+    print_line_end();
+}
+
+fn print_operation(operation: Operation) {
+    let procedure = operation.procedure;
+    print_named(b"operation ", operation.job as u64);
+    print_named(b" ", journal::procedure_byte(procedure) as u64);
+    print_named(b" ", operation.answer as u64);
+    print_named(b" ", operation.key as u64);
+}
+
+fn print_record(noted: Record) {
+    match noted {
+        Record::Open(job) => print_named(b"open ", job as u64),
+        Record::Performed(operation) => print_operation(operation),
+        Record::Commit(job) => print_named(b"commit ", job as u64),
+        Record::Abort(job) => print_named(b"abort ", job as u64),
+    }
+}
+
+// What the reader finds at a place.
+pub fn print_read(read: Read, place: usize) {
+    match read {
+        Read::Whole { record, next } => {
+            print_record(record);
+            print_named(b" next ", next as u64);
+        }
+        Read::Ruled(next) => print_named(b"rule 2 next ", next as u64),
+        Read::End => print(b"end"),
+        Read::Cut => print(b"cut"),
+        Read::Malformed => print_named(b"reply 10 offset ", place as u64),
+    }
+    print_line_end();
+}
+
+pub fn print_replayed(report: Replayed) {
+    let stop = report.stop;
+    print_named(b"reply ", replay::stop_number(stop) as u64);
+    print_named(b" offset ", report.offset as u64);
+    print_named(b" undone ", report.undone as u64);
+    print_named(b" count ", report.tiles as u64);
+    print_line_end();
+}
+
+// With the sum of all bytes of the output.
+pub fn print_mended(mended: Mended, sum: u64) {
+    let reply = mended.reply;
+    print_named(b"reply ", mending::mend_number(reply) as u64);
+    print_named(b" length ", mended.size as u64);
+    print_named(b" left ", mended.omitted as u64);
+    print_named(b" aborted ", mended.aborted as u64);
+    print_named(b" count ", mended.tiles as u64);
+    print_named(b" sum ", sum);
+    print_line_end();
+}
+
+pub fn print_sum(sum: u64) {
+    print_named(b"sum ", sum);
+    print_line_end();
+}
+
+pub fn print_lent(tiles: usize, operations: usize, journal: usize) {
+    print_named(b"lent ", tiles as u64);
+    print_named(b" ", operations as u64);
+    print_named(b" ", journal as u64);
+    print_line_end();
+}
+
+// What is no command, or names a place that is not lent.
+pub fn refuse() {
+    print(b"?\n");
+}
+
+pub fn agree() {
+    print(b"ok\n");
+}

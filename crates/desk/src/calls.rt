@@ -1,0 +1,97 @@
+// The commands that call the service.
+use super::looks;
+use super::numbers::Numbered;
+use super::numbers::first;
+use super::numbers::job_of;
+use super::numbers::operation_address;
+use super::numbers::rectangle_of;
+use super::numbers::rule_of;
+use super::numbers::second;
+use rectangles::Change;
+use script::Command;
+use script::Word;
+use service::Outcome;
+use service::Session;
+use strict::Procedure;
+
+fn answered(outcome: Outcome) -> Session {
+    let reply = outcome.reply;
+    answers::print_reply(b"reply ", reply);
+    let session = outcome.session;
+    session
+}
+
+fn answered_whole(outcome: Outcome) -> Session {
+    let reply = outcome.reply;
+    answers::print_whole(reply);
+    let session = outcome.session;
+    session
+}
+
+fn begin(
+    command: Command,
+    session: Session,
+    tiles: &[u32],
+    operations: &mut [u64],
+    journal: &mut [u8],
+) -> Session {
+    match rule_of(second(command)) {
+        Numbered::Nothing => {
+            answers::refuse();
+            session
+        }
+        Numbered::Known(rule) => {
+            answered(sanbirogu::start(tiles, first(command), operations, journal, rule))
+        }
+    }
+}
+
+fn operate(
+    procedure: Procedure,
+    command: Command,
+    session: Session,
+    tiles: &mut [u32],
+    operations: &mut [u64],
+    journal: &mut [u8],
+) -> Session {
+    let job = job_of(command);
+    let address = operation_address(command);
+    answered(sanbirogu::operation(session, tiles, operations, journal, job, procedure, address))
+}
+
+fn operate_all(
+    change: Change,
+    command: Command,
+    session: Session,
+    tiles: &mut [u32],
+    operations: &mut [u64],
+    journal: &mut [u8],
+) -> Session {
+    let job = job_of(command);
+    let r = rectangle_of(command);
+    answered_whole(sanbirogu::rectangle(session, tiles, operations, journal, job, change, r))
+}
+
+// Answers one command on what is lent.
+pub fn answer(
+    command: Command,
+    session: Session,
+    tiles: &mut [u32],
+    operations: &mut [u64],
+    journal: &mut [u8],
+) -> Session {
+    let word = command.word;
+    let job = job_of(command);
+    match word {
+        Word::Start => begin(command, session, tiles, operations, journal),
+        Word::Open => answered(sanbirogu::open(session, tiles, operations, journal, job)),
+        Word::Ins => operate(Procedure::Ins, command, session, tiles, operations, journal),
+        Word::Del => operate(Procedure::Del, command, session, tiles, operations, journal),
+        Word::Mem => operate(Procedure::Mem, command, session, tiles, operations, journal),
+        Word::InsAll => operate_all(Change::Insert, command, session, tiles, operations, journal),
+        Word::DelAll => operate_all(Change::Delete, command, session, tiles, operations, journal),
+        Word::Commit => answered(sanbirogu::commit(session, tiles, operations, journal, job)),
+        Word::Abort => answered(sanbirogu::abort(session, tiles, operations, journal, job)),
+        _ => looks::look(command, session, tiles, operations, journal),
+    }
+}

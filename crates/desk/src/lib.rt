@@ -1,0 +1,114 @@
+// A session with its lent tables, on which one line after another is answered.
+ghost use mathlib.Core.Path.{_≡_};
+ghost use Rattle.desk.specs.Lent.{Lent};
+use script::Command;
+use script::Word;
+use service::Rule;
+use service::Session;
+
+mod calls;
+mod help;
+mod looks;
+mod numbers;
+mod outside;
+
+// The session, and how many places of each table are lent.
+pub struct Desk {
+    pub session: Session,
+    pub tiles: usize,
+    pub operations: usize,
+    pub journal: usize,
+}
+
+// At the beginning nothing is lent.
+pub fn empty() -> Desk
+    ensures { λ r. ⌜ (r .tiles ≡ 0) × (r .operations ≡ 0) × (r .journal ≡ 0) ⌝ }
+{
+    Desk {
+        session: soundness::fresh_session(Rule::Alone, 0),
+        tiles: 0,
+        operations: 0,
+        journal: 0,
+    }
+}
+
+fn clear_tiles(tiles: &mut [u32]) {
+    let mut i: usize = 0;
+    while i < tiles.len() {
+        tiles[i] = 0;
+        i += 1;
+    }
+}
+
+fn clear_journal(journal: &mut [u8]) {
+    let mut i: usize = 0;
+    while i < journal.len() {
+        journal[i] = 0;
+        i += 1;
+    }
+}
+
+// Lends so many places of each table, all 0, with an empty session.
+fn lend(
+    desk: Desk,
+    command: Command,
+    tiles: &mut [u32],
+    operations: &mut [u64],
+    journal: &mut [u8],
+) -> Desk
+    requires { ⌜ Lent desk (now tiles) (now operations) (now journal) ⌝ }
+    ensures { λ r. ⌜ Lent r (now (tiles .entry)) (now (operations .entry)) (now (journal .entry)) ⌝ }
+{
+    let t = numbers::first(command);
+    let o = numbers::second(command);
+    let j = numbers::third(command);
+    if tiles.len() < t || operations.len() < o || journal.len() < j {
+        answers::refuse();
+        return desk;
+    }
+    clear_tiles(tiles);
+    entries::clear_all(operations);
+    clear_journal(journal);
+    answers::print_lent(t, o, j);
+    Desk {
+        session: soundness::fresh_session(Rule::Alone, 0),
+        tiles: t,
+        operations: o,
+        journal: j,
+    }
+}
+
+// Answers one line.
+pub fn answer_line(
+    desk: Desk,
+    line: &[u8],
+    tiles: &mut [u32],
+    operations: &mut [u64],
+    journal: &mut [u8],
+) -> Desk
+    requires { ⌜ Lent desk (now tiles) (now operations) (now journal) ⌝ }
+    ensures { λ r. ⌜ Lent r (now (tiles .entry)) (now (operations .entry)) (now (journal .entry)) ⌝ }
+{
+    let command = script::parse(line);
+    let word = command.word;
+    if let Word::Lend = word {
+        return lend(desk, command, tiles, operations, journal);
+    }
+    let t = desk.tiles;
+    let o = desk.operations;
+    let j = desk.journal;
+    let session = desk.session;
+    let next = calls::answer(
+        command,
+        session,
+        &mut tiles[..t],
+        &mut operations[..o],
+        &mut journal[..j],
+    );
+    Desk {
+        session: next,
+        tiles: t,
+        operations: o,
+        journal: j,
+    }
+}

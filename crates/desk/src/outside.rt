@@ -1,0 +1,104 @@
+// The commands that change the tables or the session from outside, as something that is not the service would.
+use super::numbers::Numbered;
+use super::numbers::first;
+use super::numbers::rule_of;
+use answers::agree;
+use answers::refuse;
+use script::Command;
+use script::Word;
+use service::Session;
+
+fn put_tile(tiles: &mut [u32], place: usize, key: u32) {
+    if tiles.len() <= place {
+        refuse();
+        return;
+    }
+    tiles[place] = key;
+    agree();
+}
+
+fn put_entry(operations: &mut [u64], place: usize, entry: u64) {
+    if operations.len() <= place {
+        refuse();
+        return;
+    }
+    operations[place] = entry;
+    agree();
+}
+
+fn put_byte(journal: &mut [u8], place: usize, byte: u8) {
+    if journal.len() <= place {
+        refuse();
+        return;
+    }
+    journal[place] = byte;
+    agree();
+}
+
+fn with_mark(session: Session, job: usize, bit: usize) -> Session {
+    if 63 < job {
+        refuse();
+        return session;
+    }
+    if 1 < bit {
+        refuse();
+        return session;
+    }
+    let mut changed = session;
+    changed.marks[job] = bit == 1;
+    agree();
+    changed
+}
+
+fn with_counts(session: Session, tiles: usize, operations: usize, journal: usize) -> Session {
+    let mut changed = session;
+    changed.tiles = tiles;
+    changed.operations = operations;
+    changed.journal = journal;
+    agree();
+    changed
+}
+
+fn with_rule(session: Session, number: usize) -> Session {
+    match rule_of(number) {
+        Numbered::Nothing => {
+            refuse();
+            session
+        }
+        Numbered::Known(rule) => {
+            agree();
+            let marks = session.marks;
+            Session {
+                rule,
+                marks,
+                tiles: session.tiles,
+                operations: session.operations,
+                journal: session.journal,
+            }
+        }
+    }
+}
+
+pub fn change(
+    command: Command,
+    session: Session,
+    tiles: &mut [u32],
+    operations: &mut [u64],
+    journal: &mut [u8],
+) -> Session {
+    let word = command.word;
+    let place = first(command);
+    let value = command.values[1];
+    match word {
+        Word::Tile => put_tile(tiles, place, (value % 4294967296) as u32),
+        Word::Entry => put_entry(operations, place, value),
+        Word::Byte => put_byte(journal, place, (value % 256) as u8),
+        Word::Tiles => return with_counts(session, place, session.operations, session.journal),
+        Word::Operations => return with_counts(session, session.tiles, place, session.journal),
+        Word::Journal => return with_counts(session, session.tiles, session.operations, place),
+        Word::Mark => return with_mark(session, place, value as usize),
+        Word::Rule => return with_rule(session, place),
+        _ => refuse(),
+    }
+    session
+}

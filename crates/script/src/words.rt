@@ -1,0 +1,182 @@
+// The words of the commands, and the types of their numbers.
+pub enum Word {
+    Lend,
+    Start,
+    Open,
+    Ins,
+    Del,
+    Mem,
+    InsAll,
+    DelAll,
+    Commit,
+    Abort,
+    Address,
+    Read,
+    Replay,
+    Mend,
+    Sum,
+    Show,
+    Help,
+    Tile,
+    Entry,
+    Byte,
+    Tiles,
+    Operations,
+    Journal,
+    Mark,
+    Rule,
+    Unknown,
+}
+
+// Whether the first `end` bytes of a line are this word.
+fn is_word(line: &[u8], end: usize, word: &[u8]) -> bool {
+    if end != word.len() {
+        return false;
+    }
+    let mut i: usize = 0;
+    while i < word.len() {
+        if line.len() <= i {
+            return false;
+        }
+        if line[i] != word[i] {
+            return false;
+        }
+        i += 1;
+    }
+    true
+}
+
+// The words of the calls, of the reader and of what only shows.
+pub fn call_word(line: &[u8], end: usize) -> Word {
+    if is_word(line, end, b"lend") {
+        return Word::Lend;
+    }
+    if is_word(line, end, b"start") {
+        return Word::Start;
+    }
+    if is_word(line, end, b"open") {
+        return Word::Open;
+    }
+    if is_word(line, end, b"commit") {
+        return Word::Commit;
+    }
+    if is_word(line, end, b"abort") {
+        return Word::Abort;
+    }
+    if is_word(line, end, b"address") {
+        return Word::Address;
+    }
+    if is_word(line, end, b"read") {
+        return Word::Read;
+    }
+    if is_word(line, end, b"replay") {
+        return Word::Replay;
+    }
+    if is_word(line, end, b"mend") {
+        return Word::Mend;
+    }
+    if is_word(line, end, b"sum") {
+        return Word::Sum;
+    }
+    if is_word(line, end, b"show") {
+        return Word::Show;
+    }
+    if is_word(line, end, b"help") {
+        return Word::Help;
+    }
+    procedure_word(line, end)
+}
+
+fn procedure_word(line: &[u8], end: usize) -> Word {
+    if is_word(line, end, b"ins") {
+        return Word::Ins;
+    }
+    if is_word(line, end, b"del") {
+        return Word::Del;
+    }
+    if is_word(line, end, b"mem") {
+        return Word::Mem;
+    }
+    if is_word(line, end, b"insall") {
+        return Word::InsAll;
+    }
+    if is_word(line, end, b"delall") {
+        return Word::DelAll;
+    }
+    change_word(line, end)
+}
+
+// The words of what changes the tables or the session from outside.
+fn change_word(line: &[u8], end: usize) -> Word {
+    if is_word(line, end, b"tile") {
+        return Word::Tile;
+    }
+    if is_word(line, end, b"entry") {
+        return Word::Entry;
+    }
+    if is_word(line, end, b"byte") {
+        return Word::Byte;
+    }
+    if is_word(line, end, b"tiles") {
+        return Word::Tiles;
+    }
+    if is_word(line, end, b"operations") {
+        return Word::Operations;
+    }
+    if is_word(line, end, b"journal") {
+        return Word::Journal;
+    }
+    if is_word(line, end, b"mark") {
+        return Word::Mark;
+    }
+    if is_word(line, end, b"rule") {
+        return Word::Rule;
+    }
+    Word::Unknown
+}
+
+// The types of a word's numbers: a count or a key up to 2^32 - 1, a byte, a signed number, an entry up to 2^64 - 1, or none.
+pub fn types_of(word: Word) -> [u8; 6] {
+    match word {
+        Word::Lend => [b'n', b'n', b'n', b'-', b'-', b'-'],
+        Word::Start => [b'n', b'b', b'-', b'-', b'-', b'-'],
+        Word::Open => [b'b', b'-', b'-', b'-', b'-', b'-'],
+        Word::Ins => [b'b', b'b', b's', b's', b'-', b'-'],
+        Word::Del => [b'b', b'b', b's', b's', b'-', b'-'],
+        Word::Mem => [b'b', b'b', b's', b's', b'-', b'-'],
+        Word::InsAll => [b'b', b'b', b's', b's', b's', b's'],
+        Word::DelAll => [b'b', b'b', b's', b's', b's', b's'],
+        Word::Commit => [b'b', b'-', b'-', b'-', b'-', b'-'],
+        Word::Abort => [b'b', b'-', b'-', b'-', b'-', b'-'],
+        Word::Address => [b'b', b's', b's', b'-', b'-', b'-'],
+        Word::Read => [b'n', b'-', b'-', b'-', b'-', b'-'],
+        Word::Replay => [b'n', b'n', b'-', b'-', b'-', b'-'],
+        Word::Mend => [b'n', b'n', b'n', b'-', b'-', b'-'],
+        Word::Sum => [b'-', b'-', b'-', b'-', b'-', b'-'],
+        Word::Show => [b'-', b'-', b'-', b'-', b'-', b'-'],
+        Word::Help => [b'-', b'-', b'-', b'-', b'-', b'-'],
+        Word::Tile => [b'n', b'n', b'-', b'-', b'-', b'-'],
+        Word::Entry => [b'n', b'e', b'-', b'-', b'-', b'-'],
+        Word::Byte => [b'n', b'b', b'-', b'-', b'-', b'-'],
+        Word::Tiles => [b'n', b'-', b'-', b'-', b'-', b'-'],
+        Word::Operations => [b'n', b'-', b'-', b'-', b'-', b'-'],
+        Word::Journal => [b'n', b'-', b'-', b'-', b'-', b'-'],
+        Word::Mark => [b'b', b'b', b'-', b'-', b'-', b'-'],
+        Word::Rule => [b'b', b'-', b'-', b'-', b'-', b'-'],
+        Word::Unknown => [b'-', b'-', b'-', b'-', b'-', b'-'],
+    }
+}
+
+// Whether a number is of a type.
+pub fn is_of(kind: u8, value: u64, negative: bool) -> bool {
+    if negative {
+        return kind == b's' && value <= 2147483648;
+    }
+    match kind {
+        b'n' => value <= 4294967295,
+        b'b' => value <= 255,
+        b's' => value <= 2147483647,
+        b'e' => true,
+        _ => false,
+    }
+}
