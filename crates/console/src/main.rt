@@ -5,8 +5,6 @@ ghost use Prim.Native.Nat.{_*_, _+_, _≤_};
 ghost use lib.ListN.{length};
 ghost use Rattle.desk.specs.Lent.{Lent};
 use desk::Desk;
-use terminal::Input;
-use terminal::print;
 
 // How far the input is answered: a place in what was read, and how many lines may still come.
 struct Progress {
@@ -15,8 +13,8 @@ struct Progress {
     left: u64,
 }
 
-// Answers every line of a text that its line feed ends, up to the place where the rest begins. A line that may come stands for
-// 65,536 bytes, which is what `space` holds: so the two counts together say that the input ends.
+// Answers every line of a text that its line feed ends, up to the place where the rest begins. Each line that may still come stands for
+// as many bytes as the space holds: counted so, what may still be read falls with every read, and the loop below ends.
 fn answer_lines(
     desk: Desk,
     left: u64,
@@ -48,8 +46,11 @@ fn answer_lines(
     }
 }
 
-fn say_unreadable() {
-    print(b"unreadable input\n");
+// Says so where the input did not end, but could not be read.
+fn say_end(failed: bool) {
+    if failed {
+        terminal::print_unreadable();
+    }
 }
 
 // Answers the lines in the first `end` bytes of the space, and keeps what is left at its front: the place where reading goes on.
@@ -84,21 +85,16 @@ fn answer_input(space: &mut [u8], tiles: &mut [u32], operations: &mut [u64], jou
     let mut at: usize = 0;
     let mut left: u64 = 4294967296;
     while 0 < left {
-        match terminal::read_some(space, at) {
-            Input::Unreadable => {
-                say_unreadable();
-                return;
-            }
-            Input::Bytes(n) => {
-                if n == 0 {
-                    return;
-                }
-                let next = answer_so_far(desk, left, space, at + n, tiles, operations, journal);
-                desk = next.desk;
-                at = next.at;
-                left = next.left;
-            }
+        let input = terminal::read_some(space, at);
+        if input.bytes == 0 {
+            say_end(input.failed);
+            return;
         }
+        let end = at + input.bytes;
+        let next = answer_so_far(desk, left, space, end, tiles, operations, journal);
+        desk = next.desk;
+        at = next.at;
+        left = next.left;
     }
 }
 

@@ -1,18 +1,33 @@
 // The commands that call the service.
-use super::looks;
-use super::numbers::Numbered;
-use super::numbers::first;
-use super::numbers::job_of;
-use super::numbers::operation_address;
-use super::numbers::rectangle_of;
-use super::numbers::rule_of;
-use super::numbers::second;
+use outside::Numbered;
 use rectangles::Change;
+use rectangles::Rectangle;
 use script::Command;
 use script::Word;
+use script::job_of;
+use script::signed;
+use service::Address;
 use service::Outcome;
 use service::Session;
 use strict::Procedure;
+
+fn operation_address(command: Command) -> Address {
+    Address {
+        zoom: (command.values[1] % 256) as u8,
+        column: signed(command.values[2], command.negative[2]),
+        row: signed(command.values[3], command.negative[3]),
+    }
+}
+
+fn rectangle_of(command: Command) -> Rectangle {
+    Rectangle {
+        zoom: (command.values[1] % 256) as u8,
+        west: signed(command.values[2], command.negative[2]),
+        east: signed(command.values[3], command.negative[3]),
+        top: signed(command.values[4], command.negative[4]),
+        bottom: signed(command.values[5], command.negative[5]),
+    }
+}
 
 fn answered(outcome: Outcome) -> Session {
     let reply = outcome.reply;
@@ -35,13 +50,13 @@ fn begin(
     operations: &mut [u64],
     journal: &mut [u8],
 ) -> Session {
-    match rule_of(second(command)) {
+    match outside::rule_of(script::second(command)) {
         Numbered::Nothing => {
             answers::refuse();
             session
         }
         Numbered::Known(rule) => {
-            answered(sanbirogu::start(tiles, first(command), operations, journal, rule))
+            answered(sanbirogu::start(tiles, script::first(command), operations, journal, rule))
         }
     }
 }

@@ -7,10 +7,6 @@ use service::Rule;
 use service::Session;
 
 mod calls;
-mod help;
-mod looks;
-mod numbers;
-mod outside;
 
 // The session, and how many places of each table are lent.
 pub struct Desk {
@@ -59,9 +55,9 @@ fn lend(
     requires { ⌜ Lent desk (now tiles) (now operations) (now journal) ⌝ }
     ensures { λ r. ⌜ Lent r (now (tiles .entry)) (now (operations .entry)) (now (journal .entry)) ⌝ }
 {
-    let t = numbers::first(command);
-    let o = numbers::second(command);
-    let j = numbers::third(command);
+    let t = script::first(command);
+    let o = script::second(command);
+    let j = script::third(command);
     if tiles.len() < t || operations.len() < o || journal.len() < j {
         answers::refuse();
         return desk;

@@ -95,3 +95,31 @@ pub fn parse(line: &[u8]) -> Command {
     }
     command
 }
+
+// The numbers of a command, whose types parse has seen to.
+
+pub fn job_of(command: Command) -> u8 {
+    (command.values[0] % 256) as u8
+}
+
+pub fn first(command: Command) -> usize {
+    command.values[0] as usize
+}
+
+pub fn second(command: Command) -> usize {
+    command.values[1] as usize
+}
+
+pub fn third(command: Command) -> usize {
+    command.values[2] as usize
+}
+
+// A number with its sign.
+pub fn signed(value: u64, negative: bool) -> i32 {
+    let size = value % 4294967296;
+    if negative {
+        let below = ((size + 2147483647) % 2147483648) as i32;
+        return -1 - below;
+    }
+    (size % 2147483648) as i32
+}

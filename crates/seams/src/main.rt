@@ -2,26 +2,25 @@
 ghost use Prim.Native.Nat.{_≤_};
 ghost use lib.ListN.{length};
 use service::Address;
-use service::Located;
 use service::Outcome;
 use service::Reply;
 use service::Session;
 use strict::Procedure;
 use strict::Rule;
 use terminal::print;
-use terminal::print_number;
+use terminal::print_line_end;
+use terminal::print_named;
 
 // The key of tile A.
 const A: u32 = 1073987589;
 
 fn print_reply(reply: Reply) {
-    print(b" -> ");
-    print_number(decisions::number(reply) as u64);
-    print(b" answer ");
-    print_number(decisions::answer(reply) as u64);
-    print(b" holder ");
-    print_number(decisions::holder(reply) as u64);
-    print(b"\n");
+    answers::print_reply(b" -> ", reply);
+}
+
+fn print_count(session: Session) {
+    print_named(b"  tiles ", session.tiles as u64);
+    print_line_end();
 }
 
 fn at(zoom: u8, column: i32, row: i32) -> Address {
@@ -39,17 +38,9 @@ fn address_of(tile: u8) -> Address {
     }
 }
 
-// The address step: its reply and its key, which is 0 where it refuses.
 fn show_address(name: &[u8], tile: u8) {
     print(name);
-    match sanbirogu::address(address_of(tile)) {
-        Located::Key(key) => {
-            print(b" -> 0 key ");
-            print_number(key as u64);
-        }
-        Located::Refused => print(b" -> 5 key 0"),
-    }
-    print(b"\n");
+    answers::print_located(b" -> ", sanbirogu::address(address_of(tile)));
 }
 
 // A digit is a job; anything else is job 64.
@@ -134,9 +125,7 @@ fn play(
         session = step(session, tiles, operations, journal, &story[at..at + 3]);
         at += 4;
     }
-    print(b"  tiles ");
-    print_number(session.tiles as u64);
-    print(b"\n");
+    print_count(session);
 }
 
 // The same with room for four operations and 64 bytes of journal.

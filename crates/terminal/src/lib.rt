@@ -1,22 +1,22 @@
 // What the programs share: all of standard input, and text and numbers on standard output and standard error.
 ghost use Prim.Native.Nat.{_-_, _≤_};
 ghost use lib.ListN.{length};
-ghost use Rattle.terminal.specs.Input.{Within};
+ghost use Rattle.io.specs.Counts.{Counts};
 use libc::STDERR_FILENO;
 use libc::STDIN_FILENO;
 use libc::STDOUT_FILENO;
 
-// What was read: so many bytes, or nothing, because reading failed.
-pub enum Input {
-    Bytes(usize),
-    Unreadable,
+// What was read: so many bytes, and whether reading failed after them.
+pub struct Input {
+    pub bytes: usize,
+    pub failed: bool,
 }
 
 pub fn print(text: &[u8]) {
     io::write_all(STDOUT_FILENO, text);
 }
 
-pub fn print_number(n: u64) {
+fn print_number(n: u64) {
     io::print_decimal(STDOUT_FILENO, n);
 }
 
@@ -30,51 +30,57 @@ pub fn print_line_end() {
     print(b"\n");
 }
 
+// The end of a program whose input cannot be read.
+pub fn print_unreadable() {
+    print(b"unreadable input\n");
+}
+
 pub fn complain(text: &[u8]) {
     io::write_all(STDERR_FILENO, text);
 }
 
-pub fn complain_number(n: u64) {
+pub fn complain_named(name: &[u8], n: u64) {
+    complain(name);
     io::print_decimal(STDERR_FILENO, n);
 }
 
 // Zoom, column and row of a key, with this between them.
 pub fn print_tile(key: u32, between: &[u8]) {
     print_number((key / 268435456) as u64);
-    print(between);
-    print_number((key / 16384 % 16384) as u64);
-    print(between);
-    print_number((key % 16384) as u64);
+    print_named(between, (key / 16384 % 16384) as u64);
+    print_named(between, (key % 16384) as u64);
 }
 
 // One read into the places from `from` on: what is there by now, at a terminal a line. No byte comes where the input has ended.
 pub fn read_some(space: &mut [u8], from: usize) -> Input
     requires { ⌜ from ≤ length (now space) ⌝ }
-    ensures { λ r. ⌜ Within r (length (now (space .entry)) - from) ⌝ }
+    ensures { λ r. ⌜ r .bytes ≤ length (now (space .entry)) - from ⌝ }
 {
     let rest = &mut space[from..];
     let got = libc::read(STDIN_FILENO, rest);
-    if got < 0 {
-        return Input::Unreadable;
+    Input {
+        bytes: io::count(got, rest),
+        failed: got < 0,
     }
-    Input::Bytes(io::count(got, rest))
 }
 
-// Reads until the input ends or the space is full. Answers how many bytes came.
+// Reads until the input ends, reading fails or the space is full.
 pub fn read_all(space: &mut [u8]) -> Input
-    ensures { λ r. ⌜ Within r (length (now (space .exit))) ⌝ }
+    ensures { λ r. ⌜ Counts (r .bytes) (now (space .exit)) ⌝ }
 {
     let mut used: usize = 0;
     while used < space.len() {
-        match read_some(space, used) {
-            Input::Unreadable => return Input::Unreadable,
-            Input::Bytes(n) => {
-                if n == 0 {
-                    return Input::Bytes(used);
-                }
-                used += n;
-            }
+        let got = read_some(space, used);
+        if got.bytes == 0 {
+            return Input {
+                bytes: used,
+                failed: got.failed,
+            };
         }
+        used += got.bytes;
     }
-    Input::Bytes(used)
+    Input {
+        bytes: used,
+        failed: false,
+    }
 }

@@ -1,14 +1,12 @@
 -- `console::answer_input` is safe and ends: a read fills more of the space, and a line takes one of those that may come
 use mathlib.Core.Path.{_∙_, _≡_, refl, sym}
-use Prim.Native.Nat.{_*_, _+_, _-_, _≤_, ℕ}
+use Prim.Native.Nat.{_*_, _+_, _-_, _≤_}
 use native.Mathlib.Omega.{arith}
 use lib.ListN.{length}
 use borrow.Author.Needs.{needs}
 use Rattle.console.proofs.answer_input.Statement.{statement}
 use Rattle.console.proofs.answer_input.Tie as tie
 use Rattle.desk.specs.Lent.{Lent}
-use Rattle.terminal.specs.Input.{brought}
-use Rattle.terminal.specs.declared.Input.the-variants.{Bytes}
 
 abbrev Inv-loop : tie.InvT-loop
 Inv-loop space₀ tiles₀ operations₀ journal₀ desk₀ at₀ left₀ space tiles operations journal desk at left =
@@ -17,19 +15,15 @@ Inv-loop space₀ tiles₀ operations₀ journal₀ desk₀ at₀ left₀ space 
 abbrev μ-loop : tie.MeasureT-loop
 μ-loop space₀ tiles₀ operations₀ journal₀ desk₀ at₀ left₀ space tiles operations journal desk at left = left * 65536 + (65536 - at)
 
--- what a read brought fits behind what is kept
-came : (c : tie.After-read-some Inv-loop μ-loop) {n : ℕ} → c .read-some .result ≡ Bytes n → n ≤ length (c .before .before .before .loop .space) - c .before .before .before .loop .at
-came c seen = brought (c .read-some .ensures) seen
-
 -- a read keeps the space's length
 kept : (c : tie.After-read-some Inv-loop μ-loop) → length (c .read-some .last .0) ≡ length (c .before .before .before .loop .space)
 kept c = search needs
 
 -- answering keeps all lengths
 alike : (c : tie.After-answer-so-far Inv-loop μ-loop) →
-    let l = c .before .before .before .before .before .before .before .before .before .before .before .before .before .before .loop in
+    let l = c .before .before .before .before .before .before .before .before .before .before .before .before .before .loop in
     let last = c .answer-so-far .last .1 .1 in
-    (length (last .0) ≡ length (c .before .before .before .before .before .before .before .before .before .before .before .read-some .last .0)) × (length (last .1 .1 .0) ≡ length (l .tiles)) × (length (last .1 .1 .1 .0) ≡ length (l .operations)) × (length (last .1 .1 .1 .1 .0) ≡ length (l .journal))
+    (length (last .0) ≡ length (c .before .before .before .before .before .before .before .before .before .before .read-some .last .0)) × (length (last .1 .1 .0) ≡ length (l .tiles)) × (length (last .1 .1 .1 .0) ≡ length (l .operations)) × (length (last .1 .1 .1 .1 .0) ≡ length (l .journal))
 alike c = (search needs, search needs, search needs, search needs)
 
 empty-requires : tie.Need-empty-requires Inv-loop μ-loop
@@ -41,11 +35,8 @@ loop-holds c = (omega arith, refl, refl, refl, refl, (omega (arith, c .empty .en
 read-some-requires : tie.Need-read-some-requires Inv-loop μ-loop
 read-some-requires c κs = omega arith
 
-enum-told : tie.Need-enum-told Inv-loop μ-loop
-enum-told c = search needs
-
-say-unreadable-requires : tie.Need-say-unreadable-requires Inv-loop μ-loop
-say-unreadable-requires c κs = search needs
+say-end-requires : tie.Need-say-end-requires Inv-loop μ-loop
+say-end-requires c κs = search needs
 
 same-length : tie.Need-same-length Inv-loop μ-loop
 same-length c = search needs
@@ -62,8 +53,25 @@ same-length-4 c = search needs
 returns : tie.Need-returns Inv-loop μ-loop
 returns c = tt
 
-enum-known-n : tie.Need-enum-known-n Inv-loop μ-loop
-enum-known-n c = search needs
+add-end : tie.Need-add-end Inv-loop μ-loop
+add-end c = omega (arith, c .before .before .before .before .before .read-some .ensures)
+
+answer-so-far-requires : tie.Need-answer-so-far-requires Inv-loop μ-loop
+answer-so-far-requires c κs =
+    let k = kept (c .before .before .before .before .before .before .before .before .before) in
+    let l = c .before .before .before .before .before .before .before .before .before .before .before .before .loop in
+    let p = c .before .before .before .before .before .before .before .before .before .before .before .before .before .before .before .before .before .before .pre in
+    (omega (arith, k, c .before .before .before .before .before .before .before .before .before .read-some .ensures, l .inv .0, l .inv .1, p), k ∙ l .inv .1 ∙ p, (rw (l .inv .2) (l .inv .5 .0), rw (l .inv .3) (l .inv .5 .1), rw (l .inv .4) (l .inv .5 .2)))
+
+loop-less : tie.Need-loop-less Inv-loop μ-loop
+loop-less c = omega (arith, c .before .before .before .before .before .before .before .before .before .answer-so-far .ensures .0, c .before .before .before .before .before .before .before .before .before .answer-so-far .ensures .1, c .before .before .before .before .before .before .before .before .before .before .before .before .before .before .before .before .before .before .before .before .before .before .loop .inv .0)
+
+loop-again : tie.Need-loop-again Inv-loop μ-loop
+loop-again c =
+    let k = alike (c .before .before .before .before .before .before .before .before .before) in
+    let e = c .before .before .before .before .before .before .before .before .before .answer-so-far .ensures in
+    let l = c .before .before .before .before .before .before .before .before .before .before .before .before .before .before .before .before .before .before .before .before .before .before .loop in
+    (e .0, k .0 ∙ kept (c .before .before .before .before .before .before .before .before .before .before .before .before .before .before .before .before .before .before .before) ∙ l .inv .1, k .1 ∙ l .inv .2, k .2 ∙ l .inv .3, k .3 ∙ l .inv .4, (rw (sym (l .inv .2)) (e .2 .0), rw (sym (l .inv .3)) (e .2 .1), rw (sym (l .inv .4)) (e .2 .2)))
 
 same-length-5 : tie.Need-same-length-5 Inv-loop μ-loop
 same-length-5 c = search needs
@@ -80,41 +88,6 @@ same-length-8 c = search needs
 returns-2 : tie.Need-returns-2 Inv-loop μ-loop
 returns-2 c = tt
 
-add-answer-so-far : tie.Need-add-answer-so-far Inv-loop μ-loop
-add-answer-so-far c = omega (arith, came (c .before .before .before .before .before .before .before) (c .before .before .before .n .given .1))
-
-answer-so-far-requires : tie.Need-answer-so-far-requires Inv-loop μ-loop
-answer-so-far-requires c κs =
-    let k = kept (c .before .before .before .before .before .before .before .before .before .before) in
-    let l = c .before .before .before .before .before .before .before .before .before .before .before .before .before .loop in
-    let p = c .before .before .before .before .before .before .before .before .before .before .before .before .before .before .before .before .before .before .before .pre in
-    (omega (arith, k, came (c .before .before .before .before .before .before .before .before .before .before) (c .before .before .before .before .before .before .n .given .1), l .inv .0, l .inv .1, p), k ∙ l .inv .1 ∙ p, (rw (l .inv .2) (l .inv .5 .0), rw (l .inv .3) (l .inv .5 .1), rw (l .inv .4) (l .inv .5 .2)))
-
-loop-less : tie.Need-loop-less Inv-loop μ-loop
-loop-less c = omega (arith, c .before .before .before .before .before .before .before .before .before .answer-so-far .ensures .0, c .before .before .before .before .before .before .before .before .before .answer-so-far .ensures .1, c .before .before .before .before .before .before .before .before .before .before .before .before .before .before .before .before .before .before .before .before .before .before .before .loop .inv .0)
-
-loop-again : tie.Need-loop-again Inv-loop μ-loop
-loop-again c =
-    let k = alike (c .before .before .before .before .before .before .before .before .before) in
-    let e = c .before .before .before .before .before .before .before .before .before .answer-so-far .ensures in
-    let l = c .before .before .before .before .before .before .before .before .before .before .before .before .before .before .before .before .before .before .before .before .before .before .before .loop in
-    (e .0, k .0 ∙ kept (c .before .before .before .before .before .before .before .before .before .before .before .before .before .before .before .before .before .before .before .before) ∙ l .inv .1, k .1 ∙ l .inv .2, k .2 ∙ l .inv .3, k .3 ∙ l .inv .4, (rw (sym (l .inv .2)) (e .2 .0), rw (sym (l .inv .3)) (e .2 .1), rw (sym (l .inv .4)) (e .2 .2)))
-
-same-length-9 : tie.Need-same-length-9 Inv-loop μ-loop
-same-length-9 c = search needs
-
-same-length-10 : tie.Need-same-length-10 Inv-loop μ-loop
-same-length-10 c = search needs
-
-same-length-11 : tie.Need-same-length-11 Inv-loop μ-loop
-same-length-11 c = search needs
-
-same-length-12 : tie.Need-same-length-12 Inv-loop μ-loop
-same-length-12 c = search needs
-
-returns-3 : tie.Need-returns-3 Inv-loop μ-loop
-returns-3 c = tt
-
 pub answer-input-spec : {M : Type 1} → statement M
 answer-input-spec =
     tie.close
@@ -124,25 +97,18 @@ answer-input-spec =
     empty-requires
     loop-holds
     read-some-requires
-    enum-told
-    say-unreadable-requires
+    say-end-requires
     same-length
     same-length-2
     same-length-3
     same-length-4
     returns
-    enum-known-n
+    add-end
+    answer-so-far-requires
+    loop-less
+    loop-again
     same-length-5
     same-length-6
     same-length-7
     same-length-8
-    returns-2
-    add-answer-so-far
-    answer-so-far-requires
-    loop-less
-    loop-again
-    same-length-9
-    same-length-10
-    same-length-11
-    same-length-12
-    returns-3)
+    returns-2)

@@ -9,11 +9,11 @@ use Rattle.seams.proofs.play.Statement.{statement}
 use Rattle.seams.proofs.play.Tie as tie
 
 abbrev Inv-loop : tie.InvT-loop
-Inv-loop name tiles₀ count operations₀ journal₀ story session₀ at₀ t11 t12 tiles operations journal session at =
+Inv-loop name tiles₀ count operations₀ journal₀ story session₀ at₀ tiles operations journal session at =
     (at ≤ length story) × (length tiles ≡ length tiles₀) × (length operations ≡ length operations₀) × (length journal ≡ length journal₀)
 
 abbrev μ-loop : tie.MeasureT-loop
-μ-loop name tiles₀ count operations₀ journal₀ story session₀ at₀ t11 t12 tiles operations journal session at =
+μ-loop name tiles₀ count operations₀ journal₀ story session₀ at₀ tiles operations journal session at =
     length story - at
 
 -- a story's length is a number of the machine
@@ -63,20 +63,8 @@ loop-less c = omega arith
 loop-again : tie.Need-loop-again Inv-loop μ-loop
 loop-again c = omega arith
 
-slice-aggregate-print : tie.Need-slice-aggregate-print Inv-loop μ-loop
-slice-aggregate-print c = omega arith
-
-print-requires-2 : tie.Need-print-requires-2 Inv-loop μ-loop
-print-requires-2 c κs = search needs
-
-print-number-requires : tie.Need-print-number-requires Inv-loop μ-loop
-print-number-requires c κs = search needs
-
-slice-aggregate-print-2 : tie.Need-slice-aggregate-print-2 Inv-loop μ-loop
-slice-aggregate-print-2 c = omega arith
-
-print-requires-3 : tie.Need-print-requires-3 Inv-loop μ-loop
-print-requires-3 c κs = search needs
+print-count-requires : tie.Need-print-count-requires Inv-loop μ-loop
+print-count-requires c κs = search needs
 
 same-length : tie.Need-same-length Inv-loop μ-loop
 same-length c = omega arith
@@ -109,11 +97,7 @@ play-spec =
     add-at
     loop-less
     loop-again
-    slice-aggregate-print
-    print-requires-2
-    print-number-requires
-    slice-aggregate-print-2
-    print-requires-3
+    print-count-requires
     same-length
     same-length-2
     same-length-3

@@ -1,10 +1,10 @@
--- `desk::looks::read` is safe and ends
+-- `looks::read` is safe and ends
 use mathlib.Core.Path.{sym}
 use native.Mathlib.Omega.{arith}
 use lib.Seq.{length-take-le}
 use borrow.Author.Needs.{needs}
-use Rattle.desk.proofs.looks.read.Statement.{statement}
-use Rattle.desk.proofs.looks.read.Tie as tie
+use Rattle.looks.proofs.read.Statement.{statement}
+use Rattle.looks.proofs.read.Tie as tie
 
 next-record-requires : tie.Need-next-record-requires
 next-record-requires c κs = search needs

@@ -1,4 +1,4 @@
--- `desk::numbers::signed` is safe: -1 less a number below 2^31 fits 32 bits
+-- `script::signed` is safe: -1 less a number below 2^31 fits 32 bits
 use mathlib.Core.Path.{_≡_, ap, refl}
 use Prim.Native.Nat.{_%_, _+_, _<_, suc, zero, ℕ}
 use native.Mathlib.Omega.{arith}
@@ -7,8 +7,8 @@ use borrow.Author.Needs.{needs}
 use borrow.Author.Tests.{lt-ltb}
 use mir.Syntax.{w32}
 use mir.Val.{SFits, toZ}
-use Rattle.desk.proofs.numbers.signed.Statement.{statement}
-use Rattle.desk.proofs.numbers.signed.Tie as tie
+use Rattle.script.proofs.signed.Statement.{statement}
+use Rattle.script.proofs.signed.Tie as tie
 
 minus : (n : ℕ) → negsuc 0 -ℤ pos n ≡ negsuc n
 minus zero = refl

@@ -1,12 +1,24 @@
 // The commands that change the tables or the session from outside, as something that is not the service would.
-use super::numbers::Numbered;
-use super::numbers::first;
-use super::numbers::rule_of;
 use answers::agree;
 use answers::refuse;
 use script::Command;
 use script::Word;
+use service::Rule;
 use service::Session;
+
+// The rule of a number, if there is one.
+pub enum Numbered {
+    Known(Rule),
+    Nothing,
+}
+
+pub fn rule_of(number: usize) -> Numbered {
+    match number {
+        1 => Numbered::Known(Rule::Alone),
+        2 => Numbered::Known(Rule::Together),
+        _ => Numbered::Nothing,
+    }
+}
 
 fn put_tile(tiles: &mut [u32], place: usize, key: u32) {
     if tiles.len() <= place {
@@ -87,7 +99,7 @@ pub fn change(
     journal: &mut [u8],
 ) -> Session {
     let word = command.word;
-    let place = first(command);
+    let place = script::first(command);
     let value = command.values[1];
     match word {
         Word::Tile => put_tile(tiles, place, (value % 4294967296) as u32),

@@ -1,10 +1,10 @@
--- `desk::looks::run_mend` is safe and ends
+-- `looks::run_mend` is safe and ends
 use mathlib.Core.Path.{sym}
 use native.Mathlib.Omega.{arith}
 use lib.Seq.{length-take-le}
 use borrow.Author.Needs.{needs}
-use Rattle.desk.proofs.looks.run_mend.Statement.{statement}
-use Rattle.desk.proofs.looks.run_mend.Tie as tie
+use Rattle.looks.proofs.run_mend.Statement.{statement}
+use Rattle.looks.proofs.run_mend.Tie as tie
 
 refuse-requires : tie.Need-refuse-requires
 refuse-requires c κs = search needs

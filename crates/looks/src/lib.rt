@@ -1,13 +1,22 @@
 // The commands that leave the session as it is.
-use super::help;
-use super::numbers::first;
-use super::numbers::lone_address;
-use super::numbers::second;
-use super::numbers::third;
-use super::outside;
 use script::Command;
 use script::Word;
+use script::first;
+use script::second;
+use script::signed;
+use script::third;
+use service::Address;
 use service::Session;
+
+mod help;
+
+fn lone_address(command: Command) -> Address {
+    Address {
+        zoom: (command.values[0] % 256) as u8,
+        column: signed(command.values[1], command.negative[1]),
+        row: signed(command.values[2], command.negative[2]),
+    }
+}
 
 // The journal of a session is its used bytes.
 fn read(session: Session, journal: &[u8], place: usize) {

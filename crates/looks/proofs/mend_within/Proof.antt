@@ -1,10 +1,10 @@
--- `desk::looks::mend_within` is safe and ends
+-- `looks::mend_within` is safe and ends
 use mathlib.Core.Path.{sym}
 use native.Mathlib.Omega.{arith}
 use lib.Seq.{length-take-le}
 use borrow.Author.Needs.{needs}
-use Rattle.desk.proofs.looks.mend_within.Statement.{statement}
-use Rattle.desk.proofs.looks.mend_within.Tie as tie
+use Rattle.looks.proofs.mend_within.Statement.{statement}
+use Rattle.looks.proofs.mend_within.Tie as tie
 
 refuse-requires : tie.Need-refuse-requires
 refuse-requires c κs = search needs
