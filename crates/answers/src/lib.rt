@@ -1,27 +1,38 @@
 // What the calls answer, as the programs print it: numbers with their names, on one line.
-use mends::Mended;
-use service::Located;
-use service::Operation;
-use service::Read;
-use service::Record;
-use service::Replayed;
-use service::Reply;
+use sanbirogu::Located;
+use sanbirogu::Mended;
+use sanbirogu::Operation;
+use sanbirogu::Read;
+use sanbirogu::Record;
+use sanbirogu::Replayed;
+use sanbirogu::Reply;
 use terminal::print;
 use terminal::print_line_end;
 use terminal::print_named;
+use terminal::print_number;
+
+// Zoom, column and row of a key, with this between them.
+pub fn print_tile(key: u32, between: &[u8]) {
+    let place = sanbirogu::split(key);
+    print_number(place.zoom as u64);
+    print_named(between, place.column as u64);
+    print_named(between, place.row as u64);
+}
 
 // After this beginning.
 pub fn print_reply(beginning: &[u8], reply: Reply) {
-    print_named(beginning, decisions::number(reply) as u64);
-    print_named(b" answer ", decisions::answer(reply) as u64);
-    print_named(b" holder ", decisions::holder(reply) as u64);
+    let told = sanbirogu::numbers(reply);
+    print_named(beginning, told.number as u64);
+    print_named(b" answer ", told.answer as u64);
+    print_named(b" holder ", told.holder as u64);
     print_line_end();
 }
 
 // A rectangle has no answer.
 pub fn print_whole(reply: Reply) {
-    print_named(b"reply ", decisions::number(reply) as u64);
-    print_named(b" holder ", decisions::holder(reply) as u64);
+    let told = sanbirogu::numbers(reply);
+    print_named(b"reply ", told.number as u64);
+    print_named(b" holder ", told.holder as u64);
     print_line_end();
 }
 
@@ -43,7 +54,7 @@ pub fn print_located(beginning: &[u8], located: Located) {
 fn print_operation(operation: Operation) {
     let procedure = operation.procedure;
     print_named(b"operation ", operation.job as u64);
-    print_named(b" ", journal::procedure_byte(procedure) as u64);
+    print_named(b" ", sanbirogu::procedure_byte(procedure) as u64);
     print_named(b" ", operation.answer as u64);
     print_named(b" ", operation.key as u64);
 }
@@ -74,7 +85,7 @@ pub fn print_read(read: Read, place: usize) {
 
 pub fn print_replayed(report: Replayed) {
     let stop = report.stop;
-    print_named(b"reply ", replay::stop_number(stop) as u64);
+    print_named(b"reply ", sanbirogu::stop_number(stop) as u64);
     print_named(b" offset ", report.offset as u64);
     print_named(b" undone ", report.undone as u64);
     print_named(b" count ", report.tiles as u64);
@@ -84,7 +95,7 @@ pub fn print_replayed(report: Replayed) {
 // With the sum of all bytes of the output.
 pub fn print_mended(mended: Mended, sum: u64) {
     let reply = mended.reply;
-    print_named(b"reply ", mending::mend_number(reply) as u64);
+    print_named(b"reply ", sanbirogu::mend_number(reply) as u64);
     print_named(b" length ", mended.size as u64);
     print_named(b" left ", mended.omitted as u64);
     print_named(b" aborted ", mended.aborted as u64);

@@ -1,11 +1,11 @@
 // The soundness check and the public calls for the program of baseline/ to link: a session comes and goes in its parts, and a reply goes as numbers.
-use rectangles::Change;
-use rectangles::Rectangle;
-use service::Address;
-use service::Outcome;
-use service::Session;
-use strict::Procedure;
-use strict::Rule;
+use sanbirogu::Address;
+use sanbirogu::Change;
+use sanbirogu::Outcome;
+use sanbirogu::Procedure;
+use sanbirogu::Rectangle;
+use sanbirogu::Rule;
+use sanbirogu::Session;
 
 // The rule of a number: 2 for the second, and the first for all others.
 fn rule_of(number: usize) -> Rule {
@@ -36,7 +36,7 @@ fn session_of(marks: &[bool; 64], parts: &[usize; 4]) -> Session {
 // Gives the next session back in its parts, and the reply as its number, answer and holder.
 fn give(outcome: Outcome, marks: &mut [bool; 64], parts: &mut [usize; 4], reply: &mut [u64; 4]) {
     let answered = outcome.reply;
-    let told = decisions::numbers(answered);
+    let told = sanbirogu::numbers(answered);
     let next = outcome.session;
     let open = next.marks;
     *marks = open;
@@ -214,7 +214,7 @@ pub extern "C" fn bench_replay(
 ) {
     let replayed = sanbirogu::replay(journal, tiles, count, operations);
     let stop = replayed.stop;
-    reply[0] = replay::stop_number(stop) as u64;
+    reply[0] = sanbirogu::stop_number(stop) as u64;
     reply[1] = replayed.offset as u64;
     reply[2] = replayed.undone as u64;
     reply[3] = replayed.tiles as u64;

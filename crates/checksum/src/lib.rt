@@ -1,7 +1,7 @@
 // One number for a session with its tables, by which two implementations are compared.
 ghost use Prim.Native.Nat.{_<_};
-use service::Session;
-use strict::Rule;
+use sanbirogu::Rule;
+use sanbirogu::Session;
 
 fn folded(sum: u64, x: u64) -> u64
     requires { ⌜ sum < 4294967291 ⌝ }

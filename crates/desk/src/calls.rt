@@ -1,15 +1,15 @@
 // The commands that call the service.
 use outside::Numbered;
-use rectangles::Change;
-use rectangles::Rectangle;
+use sanbirogu::Address;
+use sanbirogu::Change;
+use sanbirogu::Outcome;
+use sanbirogu::Procedure;
+use sanbirogu::Rectangle;
+use sanbirogu::Session;
 use script::Command;
 use script::Word;
 use script::job_of;
 use script::signed;
-use service::Address;
-use service::Outcome;
-use service::Session;
-use strict::Procedure;
 
 fn operation_address(command: Command) -> Address {
     Address {

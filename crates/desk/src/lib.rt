@@ -1,10 +1,10 @@
 // A session with its lent tables, on which one line after another is answered.
 ghost use mathlib.Core.Path.{_≡_};
 ghost use Rattle.desk.specs.Lent.{Lent};
+use sanbirogu::Rule;
+use sanbirogu::Session;
 use script::Command;
 use script::Word;
-use service::Rule;
-use service::Session;
 
 mod calls;
 
@@ -21,7 +21,7 @@ pub fn empty() -> Desk
     ensures { λ r. ⌜ (r .tiles ≡ 0) × (r .operations ≡ 0) × (r .journal ≡ 0) ⌝ }
 {
     Desk {
-        session: soundness::fresh_session(Rule::Alone, 0),
+        session: sanbirogu::fresh_session(Rule::Alone, 0),
         tiles: 0,
         operations: 0,
         journal: 0,
@@ -32,6 +32,14 @@ fn clear_tiles(tiles: &mut [u32]) {
     let mut i: usize = 0;
     while i < tiles.len() {
         tiles[i] = 0;
+        i += 1;
+    }
+}
+
+fn clear_operations(operations: &mut [u64]) {
+    let mut i: usize = 0;
+    while i < operations.len() {
+        operations[i] = 0;
         i += 1;
     }
 }
@@ -63,11 +71,11 @@ fn lend(
         return desk;
     }
     clear_tiles(tiles);
-    entries::clear_all(operations);
+    clear_operations(operations);
     clear_journal(journal);
     answers::print_lent(t, o, j);
     Desk {
-        session: soundness::fresh_session(Rule::Alone, 0),
+        session: sanbirogu::fresh_session(Rule::Alone, 0),
         tiles: t,
         operations: o,
         journal: j,

@@ -1,12 +1,12 @@
 // The commands that leave the session as it is.
+use sanbirogu::Address;
+use sanbirogu::Session;
 use script::Command;
 use script::Word;
 use script::first;
 use script::second;
 use script::signed;
 use script::third;
-use service::Address;
-use service::Session;
 
 mod help;
 

@@ -1,10 +1,10 @@
 // The commands that change the tables or the session from outside, as something that is not the service would.
 use answers::agree;
 use answers::refuse;
+use sanbirogu::Rule;
+use sanbirogu::Session;
 use script::Command;
 use script::Word;
-use service::Rule;
-use service::Session;
 
 // The rule of a number, if there is one.
 pub enum Numbered {

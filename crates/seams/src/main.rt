@@ -1,12 +1,12 @@
 // Runs the seam cases on the calls and prints every reply: its number, its answer and its holder.
 ghost use Prim.Native.Nat.{_≤_};
 ghost use lib.ListN.{length};
-use service::Address;
-use service::Outcome;
-use service::Reply;
-use service::Session;
-use strict::Procedure;
-use strict::Rule;
+use sanbirogu::Address;
+use sanbirogu::Outcome;
+use sanbirogu::Procedure;
+use sanbirogu::Reply;
+use sanbirogu::Rule;
+use sanbirogu::Session;
 use terminal::print;
 use terminal::print_line_end;
 use terminal::print_named;

@@ -44,13 +44,6 @@ pub fn complain_named(name: &[u8], n: u64) {
     io::print_decimal(STDERR_FILENO, n);
 }
 
-// Zoom, column and row of a key, with this between them.
-pub fn print_tile(key: u32, between: &[u8]) {
-    print_number((key / 268435456) as u64);
-    print_named(between, (key / 16384 % 16384) as u64);
-    print_named(between, (key % 16384) as u64);
-}
-
 // One read into the places from `from` on: what is there by now, at a terminal a line. No byte comes where the input has ended.
 pub fn read_some(space: &mut [u8], from: usize) -> Input
     requires { ⌜ from ≤ length (now space) ⌝ }

@@ -1,0 +1,53 @@
+// The README's example: three lent buffers, a tile and a sheet in one job, and what the journal then replays to.
+use answers::print_reply;
+use sanbirogu::Address;
+use sanbirogu::Change;
+use sanbirogu::Procedure;
+use sanbirogu::Rectangle;
+use sanbirogu::Rule;
+use terminal::print_line_end;
+use terminal::print_named;
+
+fn main() {
+    let mut tiles = [0u32; 4096];
+    let mut operations = [0u64; 1024];
+    let mut journal = [0u8; 65536];
+    let begun = sanbirogu::start(&tiles, 0, &mut operations, &mut journal, Rule::Together);
+    let opened = sanbirogu::open(begun.session, &tiles, &operations, &mut journal, 3);
+    let place = Address {
+        zoom: 4,
+        column: -1,
+        row: 5,
+    };
+    let put = sanbirogu::operation(
+        opened.session,
+        &mut tiles,
+        &mut operations,
+        &mut journal,
+        3,
+        Procedure::Ins,
+        place,
+    );
+    let sheet = Rectangle {
+        zoom: 8,
+        west: -2,
+        east: 1,
+        top: 100,
+        bottom: 103,
+    };
+    let put_all = sanbirogu::rectangle(
+        put.session,
+        &mut tiles,
+        &mut operations,
+        &mut journal,
+        3,
+        Change::Insert,
+        sheet,
+    );
+    let ended = sanbirogu::commit(put_all.session, &tiles, &mut operations, &mut journal, 3);
+    print_reply(b"commit: ", ended.reply);
+    let session = ended.session;
+    print_named(b"tiles: ", session.tiles as u64);
+    print_named(b", journal bytes: ", session.journal as u64);
+    print_line_end();
+}
