@@ -1,4 +1,3 @@
 -- The proofs behind the passes
-pub mod Looking
 pub mod Carrying
 pub mod Calling

@@ -1,4 +1,4 @@
--- `placing::look_all` meets its contract: what is left at each turn, with what was counted, is what there was at the first
+-- `judging::look_all` meets its contract: what is left at each turn, with what was counted, is what there was at the first
 use mathlib.Core.List.{[]}
 use mathlib.Core.Path.{_≡_}
 use Prim.Native.Nat.{_+_, _-_, _≤_}
@@ -9,9 +9,9 @@ use borrow.Author.Needs.{needs}
 use denote.Ref.{now}
 use Rattle.lists.specs.Truth.{oneIf}
 use Rattle.service.specs.World.{state, world}
-use Rattle.placing.proofs.look_all.Statement.{statement}
-use Rattle.placing.proofs.look_all.Tie as tie
-use Rattle.placing.specs.Laws.Looking.{Left, left-held, left-more, left-over, left-start, one-more, seen-so}
+use Rattle.judging.proofs.look_all.Statement.{statement}
+use Rattle.judging.proofs.look_all.Tie as tie
+use Rattle.judging.specs.Laws.{Left, left-held, left-more, left-over, left-start, one-more, seen-so}
 
 abbrev Inv-loop : tie.InvT-loop
 Inv-loop session tiles operations filter job procedure keys n need₀ i₀ need i =

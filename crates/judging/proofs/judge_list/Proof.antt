@@ -1,15 +1,14 @@
--- `placing::judge_list` meets its contract: what was found decides
+-- `judging::judge_list` meets its contract: what was found decides
 use mathlib.Core.List.{[]}
 use lib.ListN.{take}
 use borrow.Author.Needs.{needs}
 use denote.Ref.{now}
 use Rattle.service.specs.Laws.Soundness.{retabled}
 use Rattle.service.specs.World.{World, state, world}
-use Rattle.placing.proofs.judge_list.Statement.{statement}
-use Rattle.placing.proofs.judge_list.Tie as tie
-use Rattle.placing.specs.Laws.Carrying.{held-told, need-few, room-told}
-use Rattle.placing.specs.Laws.Looking.{Finds, finds}
-use Rattle.placing.specs.declared.Found.the-variants as found
+use Rattle.judging.proofs.judge_list.Statement.{statement}
+use Rattle.judging.proofs.judge_list.Tie as tie
+use Rattle.judging.specs.Laws.{Finds, finds, held-told, need-few, room-told}
+use Rattle.judging.specs.declared.Found.the-variants as found
 
 -- what the function was given
 abbrev given : tie.Start → World

@@ -1,32 +1,36 @@
--- From turn to turn of the pass that decides
+-- From turn to turn of the pass that decides, and what a list is told
 use mathlib.Core.Bool.{Bool, _&&_, and-false, and-true, false, not, true}
 use mathlib.Core.List.{List, [], _∷_, map}
 use mathlib.Core.Option.{Option, none, some}
-use mathlib.Core.Path.{_∙_, _≡_, ap, refl, subst, sym}
-use Prim.Native.Nat.{_+_, _<_, _≤_, ℕ}
+use mathlib.Core.Path.{_∙_, _≡_, ap, ap₂, refl, subst, sym}
+use Prim.Native.Nat.{_*_, _+_, _<_, _≤_, ℕ}
 use native.Mathlib.Omega.{arith}
 use lib.Dec.{eqb}
-use lib.ListN.{getD, length}
-use lib.Seq.{slice}
-use borrow.Author.Tests.{eqb-false, not-true}
+use lib.ListN.{getD, length, take}
+use lib.Seq.{length-take-le, slice}
+use borrow.Author.Tests.{eqb-false, le-ltb, lt-ltb, not-true}
 use Rattle.lists.specs.Lists.{slice-end, slice-next}
 use Rattle.lists.specs.Truth.{both, both-false, oneIf}
-use Rattle.scans.specs.Tests.{elsewhere}
-use Rattle.service.specs.Entry.{keyIn, opIn}
-use Rattle.strict.specs.Book.{Book, deleted, heldBy, needsPlace}
+use Rattle.strict.specs.Book.{Book, deleted, heldBy, needsPlace, spokenFor}
 use Rattle.strict.specs.Commutativity.{holder}
 use Rattle.strict.specs.Operations.{Op, begun, kind}
 use Rattle.strict.specs.Tiles.{member}
 use Rattle.strict.specs.declared.Procedure.{Procedure}
-use Rattle.strict.specs.declared.Rule.{Rule}
 use Rattle.strict.specs.declared.Rule.the-variants.{Alone, Together}
+use Rattle.strict.specs.declared.Rule.{Rule}
+use Rattle.service.specs.Admission.{openMarks}
+use Rattle.service.specs.Entry.{keyIn, opIn}
+use Rattle.service.specs.Told.{bare, decided}
+use Rattle.service.specs.World.{World, freeBytes, state}
+use Rattle.service.specs.declared.Told.{Told}
+use Rattle.scans.specs.Tests.{elsewhere}
 use Rattle.rectangles.specs.Laws.Apart.{holds-not}
-use Rattle.rectangles.specs.Rectangles.{firstHeld, firstOf, needed}
-use Rattle.placing.specs.Passes.{listBy, listOf, lookBy, lookOf}
-use Rattle.placing.specs.declared.Seen.{Seen}
-use Rattle.placing.specs.declared.Seen.the-variants as look
-use Rattle.placing.specs.declared.Found.{Found}
-use Rattle.placing.specs.declared.Found.the-variants as found
+use Rattle.rectangles.specs.Rectangles.{firstHeld, firstOf, listRefusals, needed}
+use Rattle.judging.specs.Looks.{listBy, listOf, lookBy, lookOf, roomFor}
+use Rattle.judging.specs.declared.Found.the-variants as found
+use Rattle.judging.specs.declared.Found.{Found}
+use Rattle.judging.specs.declared.Seen.the-variants as look
+use Rattle.judging.specs.declared.Seen.{Seen}
 
 -- what one look means
 abbrev pub Sees : Rule → Book → ℕ → Procedure → ℕ → Seen → Type 0
@@ -138,3 +142,37 @@ finds b m job p ks v u is seen = subst (Finds b m job p ks) (sym is ∙ seen) (g
 pub needed-few : (b : Rule) (m : Book) (job : ℕ) (p : Procedure) (ks : List ℕ) → needed b m job p ks ≤ length ks
 needed-few b m job p [] = omega arith
 needed-few b m job p (k ∷ ks) = let ih = needed-few b m job p ks in let o = one-more (needsPlace b (m .table) (begun job p k (m .tiles))) in omega arith
+
+-- THE ROOM: 7, 8 and 9
+module _ (w : World) (need n : ℕ) where
+  pub no-places : length (w .tiles) < spokenFor (w .session .rule) (state w .book) + need → bare 7 ≡ decided (roomFor w need n) (bare 0)
+  no-places h = rw (lt-ltb _ _ h)
+
+  module _ (places : spokenFor (w .session .rule) (state w .book) + need ≤ length (w .tiles)) where
+    pub no-slots : length (w .operations) < length (state w .book .table) + n → bare 8 ≡ decided (roomFor w need n) (bare 0)
+    no-slots h = rw (le-ltb _ _ places, lt-ltb _ _ h)
+
+    module _ (slots : length (state w .book .table) + n ≤ length (w .operations)) where
+      pub no-bytes : freeBytes w < 10 * n + 4 * openMarks (w .session .marks) → bare 9 ≡ decided (roomFor w need n) (bare 0)
+      no-bytes h = rw (le-ltb _ _ places, le-ltb _ _ slots, lt-ltb _ _ h)
+
+      pub room-enough : 10 * n + 4 * openMarks (w .session .marks) ≤ freeBytes w → bare 0 ≡ decided (roomFor w need n) (bare 0)
+      room-enough h = rw (le-ltb _ _ places, le-ltb _ _ slots, le-ltb _ _ h)
+
+-- 6, AND THEN THE ROOM
+module _ (w : World) (job : ℕ) (p : Procedure) (l : List ℕ) (n : ℕ) (fits : n ≤ length l) where
+  abbrev ks : List ℕ
+  ks = take n l
+
+  pub held-told : (by : ℕ) → Finds (w .session .rule) (state w .book) job p ks (found.Held by)
+      → record { number = 6; answer = 0; holder = by } ≡ decided (listRefusals w job p ks) (bare 0)
+  held-told by h = rw h
+
+  module _ (need : ℕ) (h : Finds (w .session .rule) (state w .book) job p ks (found.Needs need)) where
+    pub need-few : n ≤ 256 → need ≤ 256
+    need-few few = let a = needed-few (w .session .rule) (state w .book) job p ks in let b = h .1 in let c = length-take-le n l fits in omega arith
+
+    pub room-told : (t : Told) → t ≡ decided (roomFor w need n) (bare 0) → t ≡ decided (listRefusals w job p ks) (bare 0)
+    room-told t e =
+        let long : length ks ≡ n = length-take-le n l fits in
+        e ∙ sym (rw (h .0) (ap₂ (λ a b. decided (roomFor w a b) (bare 0)) (h .1) long))

@@ -1,4 +1,4 @@
--- `placing::lacking` meets its contract: each room by its count
+-- `judging::lacking` meets its contract: each room by its count
 use mathlib.Core.Path.{_∙_, _≡_, ap, sym}
 use Prim.Native.Nat.{_+_, _<_, _≤_}
 use native.Mathlib.Omega.{arith}
@@ -8,9 +8,9 @@ use denote.Ref.{now}
 use Rattle.strict.specs.Book.{spokenFor}
 use Rattle.service.specs.World.{World, state, world}
 use Rattle.admission.specs.Laws.{operations-count, spoken-for, tile-table}
-use Rattle.placing.specs.Laws.Carrying.{no-bytes, no-places, no-slots, room-enough}
-use Rattle.placing.proofs.lacking.Statement.{statement}
-use Rattle.placing.proofs.lacking.Tie as tie
+use Rattle.judging.specs.Laws.{no-bytes, no-places, no-slots, room-enough}
+use Rattle.judging.proofs.lacking.Statement.{statement}
+use Rattle.judging.proofs.lacking.Tie as tie
 
 -- what the function was given
 abbrev given : tie.After-count-besides → World

@@ -1,4 +1,4 @@
--- `placing::look_at` meets its contract
+-- `judging::look_at` meets its contract
 use mathlib.Core.List.{[]}
 use mathlib.Core.Option.{Option, none, some}
 use mathlib.Core.Path.{_∙_, _≡_, ap, sym}
@@ -16,10 +16,10 @@ use Rattle.service.specs.Laws.Entries.{kind-range}
 use Rattle.service.specs.World.{World, state, usedOperations, usedTiles, world}
 use Rattle.strict.specs.Book.{heldBy}
 use Rattle.strict.specs.Operations.{kind}
-use Rattle.placing.proofs.look_at.Statement.{statement}
-use Rattle.placing.proofs.look_at.Tie as tie
+use Rattle.judging.proofs.look_at.Statement.{statement}
+use Rattle.judging.proofs.look_at.Tie as tie
 use Rattle.admission.specs.Laws.{tile-table}
-use Rattle.placing.specs.Laws.Looking.{free, held}
+use Rattle.judging.specs.Laws.{free, held}
 
 -- what the function was given
 abbrev given : tie.After-first-holder → World

@@ -1,8 +1,8 @@
--- `placing::more` meets its contract
+-- `judging::more` meets its contract
 use borrow.Author.Needs.{needs}
-use Rattle.placing.proofs.more.Statement.{statement}
-use Rattle.placing.proofs.more.Tie as tie
-use Rattle.placing.specs.Laws.Looking.{counts, counts-not}
+use Rattle.judging.proofs.more.Statement.{statement}
+use Rattle.judging.proofs.more.Tie as tie
+use Rattle.judging.specs.Laws.{counts, counts-not}
 
 add-result : tie.Need-add-result
 add-result c = search needs

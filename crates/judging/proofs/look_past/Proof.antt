@@ -1,4 +1,4 @@
--- `placing::look_past` meets its contract: an entry on another tile neither holds nor counts
+-- `judging::look_past` meets its contract: an entry on another tile neither holds nor counts
 use mathlib.Core.List.{[]}
 use mathlib.Core.Path.{_∙_, ap}
 use lib.Dec.{eqb}
@@ -7,11 +7,11 @@ use denote.Ref.{now}
 use Rattle.admission.specs.Laws.{tile-table}
 use Rattle.service.specs.World.{World, usedOperations, usedTiles, world}
 use Rattle.strict.specs.Operations.{kind}
-use Rattle.placing.proofs.look_past.Statement.{statement}
-use Rattle.placing.proofs.look_past.Tie as tie
-use Rattle.placing.specs.Laws.Looking.{apart-free}
-use Rattle.placing.specs.declared.Seen.{Seen}
-use Rattle.placing.specs.declared.Seen.the-variants as look
+use Rattle.judging.proofs.look_past.Statement.{statement}
+use Rattle.judging.proofs.look_past.Tie as tie
+use Rattle.judging.specs.Laws.{apart-free}
+use Rattle.judging.specs.declared.Seen.{Seen}
+use Rattle.judging.specs.declared.Seen.the-variants as look
 
 -- what the function was given
 abbrev given : tie.Start → World
