@@ -4,8 +4,10 @@ ghost use Prim.Native.Nat.{_<_, _^_, _≤_};
 ghost use Rattle.service.specs.Tile.{addressCall, around, isKey, keyAt, placed, placedAt, positionIn};
 ghost use Rattle.address.specs.Columns.{columnsByZoom};
 use service::Address;
+use service::COLUMN_FACTOR;
 use service::Located;
 use service::Position;
+use service::ZOOM_FACTOR;
 
 // A level of the map: 2^zoom columns, counted eastward from 180 degrees west, and as many rows from the north.
 pub struct Level {
@@ -58,7 +60,7 @@ impl Level {
             return Located::Refused;
         }
         let x = Level::wrapped(column, columns);
-        Located::Key(zoom as u32 * 268435456 + x * 16384 + y)
+        Located::Key(zoom as u32 * ZOOM_FACTOR + x * COLUMN_FACTOR + y)
     }
 
     // Whether a number is the key of some address.
@@ -66,7 +68,7 @@ impl Level {
         ensures { λ r. ⌜ r ≡ isKey k ⌝ }
     {
         let level = Level {
-            zoom: (k / 268435456) as u8,
+            zoom: (k / ZOOM_FACTOR) as u8,
         };
         let zoom = level.zoom;
         if zoom < Level::LOWEST {
@@ -76,10 +78,10 @@ impl Level {
             return false;
         }
         let columns = level.columns();
-        if columns <= k % 268435456 / 16384 {
+        if columns <= k % ZOOM_FACTOR / COLUMN_FACTOR {
             return false;
         }
-        k % 16384 < columns
+        k % COLUMN_FACTOR < columns
     }
 }
 
@@ -112,12 +114,12 @@ pub fn is_key_by(columns: &[u32; 16], k: u32) -> bool
     requires { ⌜ now columns ≡ columnsByZoom ⌝ }
     ensures { λ r. ⌜ r ≡ isKey k ⌝ }
 {
-    let zoom = (k / 268435456) as usize;
+    let zoom = (k / ZOOM_FACTOR) as usize;
     let bound = columns[zoom];
-    if bound <= k % 268435456 / 16384 {
+    if bound <= k % ZOOM_FACTOR / COLUMN_FACTOR {
         return false;
     }
-    k % 16384 < bound
+    k % COLUMN_FACTOR < bound
 }
 
 // The address step: every column is accepted, a zoom or a row out of its range is refused.
@@ -133,8 +135,8 @@ pub fn split(key: u32) -> Position
     ensures { λ r. ⌜ r ≡ positionIn key ⌝ }
 {
     Position {
-        zoom: key / 268435456,
-        column: key % 268435456 / 16384,
-        row: key % 16384,
+        zoom: key / ZOOM_FACTOR,
+        column: key % ZOOM_FACTOR / COLUMN_FACTOR,
+        row: key % COLUMN_FACTOR,
     }
 }

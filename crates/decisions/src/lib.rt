@@ -9,8 +9,11 @@ ghost use Rattle.service.specs.World.{world};
 ghost use Rattle.decisions.specs.Decides.{Decides, Judges};
 use admission::Verdict;
 use service::Address;
+use service::LAST_JOB;
 use service::Located;
+use service::OPERATION_SIZE;
 use service::Reply;
+use service::SHORT_SIZE;
 use service::Session;
 use service::Told;
 use strict::Procedure;
@@ -81,7 +84,7 @@ pub fn open_reply(
     if !soundness::sound(session, tiles, operations, journal) {
         return Reply::NotSound;
     }
-    if 63 < job {
+    if LAST_JOB < job {
         return Reply::NoSuchJob;
     }
     let place = job as usize;
@@ -90,7 +93,7 @@ pub fn open_reply(
     }
     let used = session.journal;
     let open = scans::open_jobs(session);
-    if journal.len() - used < 4 + 4 * (open + 1) {
+    if journal.len() - used < SHORT_SIZE + SHORT_SIZE * (open + 1) {
         return Reply::NoJournalRoom;
     }
     Reply::Done(false)
@@ -109,7 +112,7 @@ pub fn end_reply(
     if !soundness::sound(session, tiles, operations, journal) {
         return Reply::NotSound;
     }
-    if 63 < job {
+    if LAST_JOB < job {
         return Reply::NoSuchJob;
     }
     let place = job as usize;
@@ -138,7 +141,7 @@ fn judge_keyed(
         Verdict::NoOperationRoom => Decision::Refuse(Reply::NoOperationRoom),
         Verdict::Admitted(spot) => {
             let used = session.journal;
-            if journal.len() - used < 10 + 4 * scans::open_jobs(session) {
+            if journal.len() - used < OPERATION_SIZE + SHORT_SIZE * scans::open_jobs(session) {
                 return Decision::Refuse(Reply::NoJournalRoom);
             }
             Decision::Perform(spot)

@@ -13,7 +13,9 @@ ghost use Rattle.scans.specs.Tests.{elsewhere};
 ghost use Rattle.rectangles.specs.Rectangles.{listRefusals};
 ghost use Rattle.judging.specs.Looks.{listOf, lookOf, roomFor};
 use entries::Holder;
+use service::OPERATION_SIZE;
 use service::Reply;
+use service::SHORT_SIZE;
 use service::Session;
 use strict::Procedure;
 
@@ -139,7 +141,7 @@ fn lacking(
     if operations.len() < used + n {
         return Reply::NoOperationRoom;
     }
-    if journal.len() - written < 10 * n + 4 * scans::open_jobs(session) {
+    if journal.len() - written < OPERATION_SIZE * n + SHORT_SIZE * scans::open_jobs(session) {
         return Reply::NoJournalRoom;
     }
     Reply::Done(false)

@@ -9,7 +9,9 @@ ghost use Rattle.shapes.specs.declared.Shape.the-variants.{Fine};
 ghost use Rattle.shapes.specs.Shaping.{Measures, Shapes, Steps, cornerAt, stepped};
 use rectangles::Rectangle;
 use service::Address;
+use service::COLUMN_FACTOR;
 use service::Located;
+use service::ZOOM_FACTOR;
 
 // A rectangle's shape: refused by 5, by 13, or the key of its first tile, its height and how many tiles it has.
 pub enum Shape {
@@ -118,7 +120,9 @@ fn key_at(zoom: u8, columns: u32, first: u32, north: u32, height: u32, i: u32) -
     requires { ⌜ Steps zoom columns first north height × (i < 256) ⌝ }
     ensures { λ r. ⌜ r ≡ stepped zoom columns first north height i ⌝ }
 {
-    zoom as u32 * 268435456 + (first + i / height) % columns * 16384 + (north + i % height)
+    zoom as u32 * ZOOM_FACTOR
+        + (first + i / height) % columns * COLUMN_FACTOR
+        + (north + i % height)
 }
 
 // Lists the keys of n tiles by such steps.
@@ -143,8 +147,8 @@ pub fn list_tiles(r: Rectangle, corner: u32, height: u32, n: u32, keys: &mut [u3
     list_keys(
         zoom,
         columns_of(zoom),
-        corner % 268435456 / 16384,
-        corner % 16384,
+        corner % ZOOM_FACTOR / COLUMN_FACTOR,
+        corner % COLUMN_FACTOR,
         height,
         n,
         keys,

@@ -5,6 +5,10 @@ ghost use Rattle.service.specs.Calls.{fresh, startWorld};
 ghost use Rattle.service.specs.Sound.{every, soundB, tabledB};
 ghost use Rattle.service.specs.World.{world};
 ghost use Rattle.soundness.specs.Tests.{countTests};
+use service::MOST_BYTES;
+use service::MOST_OPERATIONS;
+use service::MOST_TILES;
+use service::SHORT_SIZE;
 use service::Session;
 use strict::Rule;
 
@@ -15,13 +19,13 @@ fn counts_fit(session: Session, tiles: &[u32], operations: &[u64]) -> bool
     if tiles.len() < 1 {
         return false;
     }
-    if 4096 < tiles.len() {
+    if MOST_TILES < tiles.len() {
         return false;
     }
     if operations.len() < 1 {
         return false;
     }
-    if 1024 < operations.len() {
+    if MOST_OPERATIONS < operations.len() {
         return false;
     }
     if tiles.len() < session.tiles {
@@ -61,14 +65,14 @@ pub fn sound(session: Session, tiles: &[u32], operations: &[u64], journal: &[u8]
     if !tables_sound(session, tiles, operations) {
         return false;
     }
-    if 65536 < journal.len() {
+    if MOST_BYTES < journal.len() {
         return false;
     }
     let used = session.journal;
     if journal.len() < used {
         return false;
     }
-    4 * scans::open_jobs(session) <= journal.len() - used
+    SHORT_SIZE * scans::open_jobs(session) <= journal.len() - used
 }
 
 // A session with no job open, nothing admitted and nothing written.
@@ -95,5 +99,5 @@ pub fn can_start(tiles: &[u32], count: usize, operations: &[u64], journal: &[u8]
     if !scans::tiles_sound(tiles, count) {
         return false;
     }
-    journal.len() <= 65536
+    journal.len() <= MOST_BYTES
 }
