@@ -9,12 +9,11 @@ use sanbirogu::Reply;
 use terminal::print;
 use terminal::print_line_end;
 use terminal::print_named;
-use terminal::print_number;
 
 // Zoom, column and row of a key, with this between them.
 pub fn print_tile(key: u32, between: &[u8]) {
     let place = sanbirogu::split(key);
-    print_number(place.zoom as u64);
+    print_named(b"", place.zoom as u64);
     print_named(between, place.column as u64);
     print_named(between, place.row as u64);
 }
