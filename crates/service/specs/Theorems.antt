@@ -1,7 +1,7 @@
 -- THEOREMS ON EVERY WORLD. Each speaks of the definitions that the calls promise to keep, and so of the calls
 use mathlib.Core.Bool.{Bool, cond, false, true}
 use mathlib.Core.List.{List, [], _++_, _∷_, map}
-use mathlib.Core.Logic.{_↔_, _≢_, _⊎_}
+use mathlib.Core.Logic.{_↔_, _≢_, _⊎_, ⊎-elim}
 use mathlib.Core.Option.{none, some}
 use mathlib.Core.Path.{_∙_, _≡_, ap, refl, subst, sym}
 use Prim.Native.Nat.{_+_, _-_, _<_, _≤_, ℕ}
@@ -20,11 +20,11 @@ use Rattle.strict.specs.declared.Rule.the-variants.{Alone, Together}
 use Rattle.strict.specs.declared.Rule.{Rule}
 use Rattle.service.specs.Admission.{answerTo, isOpen}
 use Rattle.service.specs.Calls.{abortCall, carried, commitCall, concluded, fresh, openCall, operationCall, ruledWorld, startCall, startWorld}
-use Rattle.service.specs.Claims.{Because, ChangedByOther, Halts, Keeps, NoRoomByJob, Placeless, Serves, WantsOpen, holderIn, openBytes, operationBytes, refusing}
+use Rattle.service.specs.Claims.{Because, ChangedByOther, Halts, Keeps, NoRoomByJob, Placeless, Serves, Stops, WantsOpen, holderIn, openBytes, operationBytes, refusing}
 use Rattle.service.specs.Entry.{opIn}
 use Rattle.service.specs.Extents.{recordSize}
 use Rattle.service.specs.History.{Call, call, event, jobOf, refusalsOf}
-use Rattle.service.specs.Journal.{encode, readAt, recordOf, ruleBytes, ruleIn}
+use Rattle.service.specs.Journal.{encode, placeAfter, readAt, readCall, readNumber, readOffset, recordOf, ruleBytes, ruleIn}
 use Rattle.service.specs.Laws.Accepting.{after-stands, carried-bytes, carried-places, carried-slots, carried-sound, first-told, left-carried, lowest-told, none-told, passed, passes, told-listed}
 use Rattle.service.specs.Laws.Deciding.{accepted-told, held-by-other, held-names, room-by-job, told-eight, told-nine, told-seven}
 use Rattle.service.specs.Laws.Halting.{number-of-replay, refused-is, refused-just, starts-left}
@@ -44,7 +44,8 @@ use Rattle.service.specs.Tile.{keyOf}
 use Rattle.service.specs.Told.{Refusal, bare, done, refused}
 use Rattle.service.specs.World.{Reported, World, freeBytes, state, usedJournal, usedOperations, usedTiles, world}
 use Rattle.service.specs.declared.Address.{Address}
-use Rattle.service.specs.declared.Read.the-variants.{Ruled, Whole}
+use Rattle.service.specs.declared.Read.the-variants.{Cut, End, Malformed, Ruled, Whole}
+use Rattle.service.specs.declared.Read.{Read}
 use Rattle.service.specs.declared.Record.{Record}
 
 -- 1. ONE NUMBER FROM THE LIST, AND A REFUSAL CHANGES NOTHING
@@ -212,6 +213,17 @@ ends-accepted w job full sound is-open =
 pub whole-is-encoded : (journal : List ℕ) (at : ℕ) (r : Record) (next : ℕ) → All (λ b. b < 256) journal → readAt journal at ≡ Whole r next
     → take (next - at) (drop at journal) ≡ encode r
 whole-is-encoded journal at r next bytes reads = bytes-encoded journal at r next bytes reads
+
+-- the reader tells 10 with its offset of a malformed record, and of that, of the end and of a cut tail it leaves the place
+pub ten-given : (journal : List ℕ) (at : ℕ) → readAt journal at ≡ Malformed
+    → (readCall journal at .number ≡ 10) × (readCall journal at .offset ≡ at) × (readCall journal at .place ≡ at)
+ten-given journal at e = (ap readNumber e, ap (λ r. readOffset r at) e, ap (λ r. placeAfter r at) e)
+
+pub stays-there : (journal : List ℕ) (at : ℕ) → Stops (readAt journal at) → (readCall journal at .number ≡ 0) × (readCall journal at .place ≡ at)
+stays-there journal at stops = ⊎-elim (λ (e : readAt journal at ≡ End). told (refl, refl) e) (λ (e : readAt journal at ≡ Cut). told (refl, refl) e) stops
+  where
+    told : {r : Read} → (readNumber r ≡ 0) × (placeAfter r at ≡ at) → readAt journal at ≡ r → (readCall journal at .number ≡ 0) × (readCall journal at .place ≡ at)
+    told h e = (ap readNumber e ∙ h .0, ap (λ r. placeAfter r at) e ∙ h .1)
 
 -- the numbers are 0, 1, 10, 11 and 12
 pub replay-numbers : (journal tiles : List ℕ) (count : ℕ) (operations : List ℕ) →
