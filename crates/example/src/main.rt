@@ -45,7 +45,8 @@ fn main() {
         sheet,
     );
     let ended = sanbirogu::commit(put_all.session, &tiles, &mut operations, &mut journal, 3);
-    print_reply(b"commit: ", ended.reply);
+    let reply = ended.reply;
+    print_reply(b"commit: ", reply);
     let session = ended.session;
     print_named(b"tiles: ", session.tiles as u64);
     print_named(b", journal bytes: ", session.journal as u64);
