@@ -14,6 +14,7 @@ use Rattle.service.specs.History.{committing}
 use Rattle.service.specs.Laws.Accepting.{numbered}
 use Rattle.service.specs.Laws.Soundness.{sound-is}
 use Rattle.service.specs.Laws.Telling.{decided-done, decided-none, unrefused}
+use Rattle.service.specs.Limits.{lastJob, operationSize, shortSize}
 use Rattle.service.specs.Sound.{Sound, soundB}
 use Rattle.service.specs.Tile.{Placed, addressCall, placed}
 use Rattle.service.specs.Told.{Refusal, bare, decided, done, refuse, refused, told}
@@ -54,28 +55,28 @@ module _ (w : World) (job : ℕ) (t : Told) where
   end-unsound h = rw h
 
   module _ (sound : soundB w ≡ true) where
-    pub open-no-job : 63 < job → bare 2 ≡ decided (openRefusals w job) t
-    open-no-job h = rw (sound, lt-ltb 63 job h)
+    pub open-no-job : lastJob < job → bare 2 ≡ decided (openRefusals w job) t
+    open-no-job h = rw (sound, lt-ltb lastJob job h)
 
-    pub end-no-job : 63 < job → bare 2 ≡ decided (endRefusals w job) t
-    end-no-job h = rw (sound, lt-ltb 63 job h)
+    pub end-no-job : lastJob < job → bare 2 ≡ decided (endRefusals w job) t
+    end-no-job h = rw (sound, lt-ltb lastJob job h)
 
-    module _ (small : job ≤ 63) where
+    module _ (small : job ≤ lastJob) where
       pub open-already : isOpen (state w) job ≡ true → bare 4 ≡ decided (openRefusals w job) t
-      open-already h = rw (sound, le-ltb 63 job small, h)
+      open-already h = rw (sound, le-ltb lastJob job small, h)
 
       pub end-closed : isOpen (state w) job ≡ false → bare 3 ≡ decided (endRefusals w job) t
-      end-closed h = rw (sound, le-ltb 63 job small, h)
+      end-closed h = rw (sound, le-ltb lastJob job small, h)
 
       pub end-done : isOpen (state w) job ≡ true → t ≡ decided (endRefusals w job) t
-      end-done h = rw (sound, le-ltb 63 job small, h)
+      end-done h = rw (sound, le-ltb lastJob job small, h)
 
       module _ (closed : isOpen (state w) job ≡ false) where
         pub open-no-room : freeBytes w < 4 + 4 * (openMarks (w .session .marks) + 1) → bare 9 ≡ decided (openRefusals w job) t
-        open-no-room h = rw (sound, le-ltb 63 job small, closed, lt-ltb (freeBytes w) (4 + 4 * (openMarks (w .session .marks) + 1)) h)
+        open-no-room h = rw (sound, le-ltb lastJob job small, closed, lt-ltb (freeBytes w) (shortSize + shortSize * (openMarks (w .session .marks) + 1)) h)
 
         pub open-done : 4 + 4 * (openMarks (w .session .marks) + 1) ≤ freeBytes w → t ≡ decided (openRefusals w job) t
-        open-done h = rw (sound, le-ltb 63 job small, closed, le-ltb (freeBytes w) (4 + 4 * (openMarks (w .session .marks) + 1)) h)
+        open-done h = rw (sound, le-ltb lastJob job small, closed, le-ltb (freeBytes w) (shortSize + shortSize * (openMarks (w .session .marks) + 1)) h)
 
 -- AN OPERATION WITH A KEY
 module _ (w : World) (job : ℕ) (p : Procedure) (k : ℕ) where
@@ -83,7 +84,7 @@ module _ (w : World) (job : ℕ) (p : Procedure) (k : ℕ) where
   Meaning v = Means (length (w .tiles)) (length (w .operations)) (state w) job p k v
 
   abbrev noBytes : Bool
-  noBytes = ltb (freeBytes w) (10 + 4 * openMarks (w .session .marks))
+  noBytes = ltb (freeBytes w) (operationSize + shortSize * openMarks (w .session .marks))
 
   pub judges-held : (by : ℕ) → Meaning (Held by) → Judges w job p k (Refuse (reply.Held by))
   judges-held by h = (λ t. rw h, refl)

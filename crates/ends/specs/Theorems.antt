@@ -13,19 +13,20 @@ use Rattle.strict.specs.Sound.{SoundEntry}
 use Rattle.strict.specs.Strict.{Log}
 use Rattle.strict.specs.Tiles.{Ascending}
 use Rattle.strict.specs.declared.Procedure.the-variants.{Del, Ins, Mem}
-use Rattle.strict.specs.declared.Rule.{Rule}
 use Rattle.strict.specs.declared.Rule.the-variants.{Alone}
+use Rattle.strict.specs.declared.Rule.{Rule}
 use Rattle.service.specs.Admission.{State}
 use Rattle.service.specs.Calls.{stored}
 use Rattle.service.specs.Demands.{all-marks, reached}
 use Rattle.service.specs.History.{Call, From}
 use Rattle.service.specs.Laws.Soundness.{sound-is}
 use Rattle.service.specs.Laws.Storing.{tabled-stands}
+use Rattle.service.specs.Limits.{jobCount}
 use Rattle.service.specs.Sound.{soundB}
 use Rattle.service.specs.World.{World, state, usedJournal}
+use Rattle.service.specs.declared.Session.{Session}
 use Rattle.rectangles.specs.Claims.{FromMoves, Move}
 use Rattle.rectangles.specs.Theorems.{written-out}
-use Rattle.service.specs.declared.Session.{Session}
 use Rattle.ends.specs.Ends.{EitherFirst, End, Group, Reordered, SameEnd, behind, cancels, careful, endRecords, endedBy, greedy, keeps, wary, whose}
 use Rattle.ends.specs.Laws.Orders.{either-first}
 use Rattle.ends.specs.Laws.Worlds.{all-left, group-same, journal-left, same-bytes, same-number, states-same}
@@ -37,7 +38,7 @@ sessionOf w s n = record { rule = s .rule; marks = s .marks; tiles = length (s .
 -- From every sound world with its 64 marks, however it came about and by either rule. What is needed: that the jobs differ and are open (edits of `Group`);
 -- soundness, for an end of a world that is not sound is refused by 1, and two aborts may then leave different tiles (`needs-soundness`); and the 64
 -- marks, that every session has. No history is.
-pub ends-in-any-order : (w : World) (es fs : List End) → length (w .session .marks) ≡ 64 → soundB w ≡ true → Group (state w) es → Reordered es fs
+pub ends-in-any-order : (w : World) (es fs : List End) → length (w .session .marks) ≡ jobCount → soundB w ≡ true → Group (state w) es → Reordered es fs
     → SameEnd w es fs
 ends-in-any-order w es fs full sound g r =
     let a = all-left es w full sound g in

@@ -8,17 +8,31 @@ use sanbirogu::Rule;
 use terminal::print_line_end;
 use terminal::print_named;
 
+// A tile left of 180 degrees, and a sheet that crosses it.
+fn place() -> Address {
+    Address {
+        zoom: 4,
+        column: -1,
+        row: 5,
+    }
+}
+
+fn sheet() -> Rectangle {
+    Rectangle {
+        zoom: 8,
+        west: -2,
+        east: 1,
+        top: 100,
+        bottom: 103,
+    }
+}
+
 fn main() {
     let mut tiles = [0u32; 4096];
     let mut operations = [0u64; 1024];
     let mut journal = [0u8; 65536];
     let begun = sanbirogu::start(&tiles, 0, &mut operations, &mut journal, Rule::Together);
     let opened = sanbirogu::open(begun.session, &tiles, &operations, &mut journal, 3);
-    let place = Address {
-        zoom: 4,
-        column: -1,
-        row: 5,
-    };
     let put = sanbirogu::operation(
         opened.session,
         &mut tiles,
@@ -26,15 +40,8 @@ fn main() {
         &mut journal,
         3,
         Procedure::Ins,
-        place,
+        place(),
     );
-    let sheet = Rectangle {
-        zoom: 8,
-        west: -2,
-        east: 1,
-        top: 100,
-        bottom: 103,
-    };
     let put_all = sanbirogu::rectangle(
         put.session,
         &mut tiles,
@@ -42,7 +49,7 @@ fn main() {
         &mut journal,
         3,
         Change::Insert,
-        sheet,
+        sheet(),
     );
     let ended = sanbirogu::commit(put_all.session, &tiles, &mut operations, &mut journal, 3);
     let reply = ended.reply;

@@ -20,12 +20,13 @@ use Rattle.strict.specs.declared.Rule.the-variants.{Alone, Together}
 use Rattle.strict.specs.declared.Rule.{Rule}
 use Rattle.service.specs.Admission.{openMarks}
 use Rattle.service.specs.Entry.{keyIn, opIn}
+use Rattle.service.specs.Limits.{operationSize, shortSize}
 use Rattle.service.specs.Told.{bare, decided}
 use Rattle.service.specs.World.{World, freeBytes, state}
 use Rattle.service.specs.declared.Told.{Told}
-use Rattle.scans.specs.Tests.{elsewhere}
 use Rattle.rectangles.specs.Laws.Apart.{holds-not}
-use Rattle.rectangles.specs.Rectangles.{firstHeld, firstOf, listRefusals, needed}
+use Rattle.rectangles.specs.Rectangles.{firstHeld, firstOf, listRefusals, mostInRectangle, needed}
+use Rattle.scans.specs.Tests.{elsewhere}
 use Rattle.judging.specs.Looks.{listBy, listOf, lookBy, lookOf, roomFor}
 use Rattle.judging.specs.declared.Found.the-variants as found
 use Rattle.judging.specs.declared.Found.{Found}
@@ -153,10 +154,10 @@ module _ (w : World) (need n : ℕ) where
     no-slots h = rw (le-ltb _ _ places, lt-ltb _ _ h)
 
     module _ (slots : length (state w .book .table) + n ≤ length (w .operations)) where
-      pub no-bytes : freeBytes w < 10 * n + 4 * openMarks (w .session .marks) → bare 9 ≡ decided (roomFor w need n) (bare 0)
+      pub no-bytes : freeBytes w < operationSize * n + shortSize * openMarks (w .session .marks) → bare 9 ≡ decided (roomFor w need n) (bare 0)
       no-bytes h = rw (le-ltb _ _ places, le-ltb _ _ slots, lt-ltb _ _ h)
 
-      pub room-enough : 10 * n + 4 * openMarks (w .session .marks) ≤ freeBytes w → bare 0 ≡ decided (roomFor w need n) (bare 0)
+      pub room-enough : operationSize * n + shortSize * openMarks (w .session .marks) ≤ freeBytes w → bare 0 ≡ decided (roomFor w need n) (bare 0)
       room-enough h = rw (le-ltb _ _ places, le-ltb _ _ slots, le-ltb _ _ h)
 
 -- 6, AND THEN THE ROOM
@@ -169,7 +170,7 @@ module _ (w : World) (job : ℕ) (p : Procedure) (l : List ℕ) (n : ℕ) (fits 
   held-told by h = rw h
 
   module _ (need : ℕ) (h : Finds (w .session .rule) (state w .book) job p ks (found.Needs need)) where
-    pub need-few : n ≤ 256 → need ≤ 256
+    pub need-few : n ≤ mostInRectangle → need ≤ mostInRectangle
     need-few few = let a = needed-few (w .session .rule) (state w .book) job p ks in let b = h .1 in let c = length-take-le n l fits in omega arith
 
     pub room-told : (t : Told) → t ≡ decided (roomFor w need n) (bare 0) → t ≡ decided (listRefusals w job p ks) (bare 0)

@@ -9,6 +9,7 @@ use Rattle.strict.specs.Operations.{begun}
 use Rattle.strict.specs.declared.Procedure.{Procedure}
 use Rattle.strict.specs.declared.Rule.{Rule}
 use Rattle.service.specs.Admission.{openMarks}
+use Rattle.service.specs.Limits.{operationSize, shortSize}
 use Rattle.service.specs.Told.{Refusal}
 use Rattle.service.specs.World.{World, freeBytes, state}
 use Rattle.rectangles.specs.Rectangles.{firstHeld, needed, roomRefusals}
@@ -37,4 +38,4 @@ listOf b m job p ks = listBy (firstHeld b m job p ks) (needed b m job p ks)
 abbrev pub roomFor : World → ℕ → ℕ → List Refusal
 roomFor w need n =
     roomRefusals (ltb (length (w .tiles)) (spokenFor (w .session .rule) (state w .book) + need)) (ltb (length (w .operations)) (length (state w .book .table) + n))
-    (ltb (freeBytes w) (10 * n + 4 * openMarks (w .session .marks)))
+    (ltb (freeBytes w) (operationSize * n + shortSize * openMarks (w .session .marks)))

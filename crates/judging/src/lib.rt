@@ -5,12 +5,13 @@ ghost use mathlib.Core.Path.{_≡_};
 ghost use Prim.Native.Nat.{_+_, _<_, _≤_};
 ghost use lib.ListN.{length, take};
 ghost use Rattle.lists.specs.Truth.{oneIf};
+ghost use Rattle.service.specs.Limits.{mostTiles};
 ghost use Rattle.service.specs.Sound.{Sound, Tabled};
 ghost use Rattle.service.specs.Told.{bare, decided, told};
 ghost use Rattle.service.specs.World.{state, world};
+ghost use Rattle.rectangles.specs.Rectangles.{listRefusals, mostInRectangle};
 ghost use Rattle.scans.specs.Filter.{Covers};
 ghost use Rattle.scans.specs.Tests.{elsewhere};
-ghost use Rattle.rectangles.specs.Rectangles.{listRefusals};
 ghost use Rattle.judging.specs.Looks.{listOf, lookOf, roomFor};
 use entries::Holder;
 use service::OPERATION_SIZE;
@@ -77,7 +78,7 @@ fn look_past(
 
 // One more where a place is needed.
 fn more(need: usize, needs: bool) -> usize
-    requires { ⌜ need < 4096 ⌝ }
+    requires { ⌜ need < mostTiles ⌝ }
     ensures { λ r. ⌜ r ≡ need + oneIf needs ⌝ }
 {
     if needs {
@@ -97,7 +98,7 @@ fn look_all(
     keys: &[u32],
     n: usize,
 ) -> Found
-    requires { ⌜ Tabled (world session (now tiles) (now operations) []) × (n ≤ length (now keys)) × (n ≤ 256)
+    requires { ⌜ Tabled (world session (now tiles) (now operations) []) × (n ≤ length (now keys)) × (n ≤ mostInRectangle)
         × (length (now filter) ≡ 1024) × Covers (now filter) (take (session .operations) (now operations)) ⌝ }
     ensures { λ r. ⌜ r ≡ listOf (session .rule) (state (world session (now (tiles .entry)) (now (operations .entry)) []) .book) job procedure
         (take n (now (keys .entry))) ⌝ }
@@ -129,7 +130,7 @@ fn lacking(
     need: usize,
     n: usize,
 ) -> Reply
-    requires { ⌜ Sound (world session (now tiles) (now operations) (now journal)) × (need ≤ 256) × (n ≤ 256) ⌝ }
+    requires { ⌜ Sound (world session (now tiles) (now operations) (now journal)) × (need ≤ mostInRectangle) × (n ≤ mostInRectangle) ⌝ }
     ensures { λ r. ⌜ told r ≡ decided (roomFor (world session (now (tiles .entry)) (now (operations .entry)) (now (journal .entry))) need n) (bare 0) ⌝ }
 {
     let count = session.tiles;
@@ -158,7 +159,7 @@ pub fn judge_list(
     keys: &[u32],
     n: usize,
 ) -> Reply
-    requires { ⌜ Sound (world session (now tiles) (now operations) (now journal)) × (n ≤ length (now keys)) × (n ≤ 256) ⌝ }
+    requires { ⌜ Sound (world session (now tiles) (now operations) (now journal)) × (n ≤ length (now keys)) × (n ≤ mostInRectangle) ⌝ }
     ensures { λ r. ⌜ told r
         ≡ decided (listRefusals (world session (now (tiles .entry)) (now (operations .entry)) (now (journal .entry))) job procedure (take n (now (keys .entry)))) (bare 0) ⌝ }
 {

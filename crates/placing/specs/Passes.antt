@@ -13,7 +13,7 @@ use Rattle.service.specs.Told.{bare, decided}
 use Rattle.service.specs.World.{Reported, World}
 use Rattle.service.specs.declared.Told.{Told}
 use Rattle.rectangles.specs.Claims.{Apart}
-use Rattle.rectangles.specs.Rectangles.{carriedAll, listRefusals}
+use Rattle.rectangles.specs.Rectangles.{carriedAll, listRefusals, mostInRectangle}
 use Rattle.rectangles.specs.declared.Rectangle.{Rectangle}
 use Rattle.shapes.specs.Shaping.{Shapes}
 use Rattle.shapes.specs.declared.Shape.the-variants.{Fine}
@@ -28,7 +28,7 @@ listCall w job p ks = listAfter w job p ks (decided (listRefusals w job p ks) (b
 -- 1, 2 and 3 do not refuse, and the first n of l are keys of different tiles
 pub record Carries (w : World) (job : ℕ) (l : List ℕ) (n : ℕ) : Type 0 where
   pub ready : Serves w job
-  pub few : n ≤ 256
+  pub few : n ≤ mostInRectangle
   pub fits-list : n ≤ length l
   pub valid : All (λ k. isKey k ≡ true) (take n l)
   pub apart : Apart (take n l)

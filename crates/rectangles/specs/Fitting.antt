@@ -10,6 +10,7 @@ use Rattle.strict.specs.Book.{spokenFor}
 use Rattle.strict.specs.declared.Procedure.{Procedure}
 use Rattle.service.specs.Admission.{openMarks}
 use Rattle.service.specs.Claims.{Serves}
+use Rattle.service.specs.Limits.{jobCount, operationSize, shortSize}
 use Rattle.service.specs.Tile.{isKey}
 use Rattle.service.specs.World.{World, freeBytes, state}
 use Rattle.service.specs.declared.Address.{Address}
@@ -26,7 +27,7 @@ pub record Fits (w : World) (job : ℕ) (p : Procedure) (ks : List ℕ) : Type 0
   pub unheld : firstHeld (w .session .rule) (state w .book) job p ks ≡ none
   pub places : spokenFor (w .session .rule) (state w .book) + needed (w .session .rule) (state w .book) job p ks ≤ length (w .tiles)
   pub slots : length (state w .book .table) + length ks ≤ length (w .operations)
-  pub bytes : 10 * length ks + 4 * openMarks (w .session .marks) ≤ freeBytes w
+  pub bytes : operationSize * length ks + shortSize * openMarks (w .session .marks) ≤ freeBytes w
 
 -- from turn to turn: what is ahead is what was ahead at the beginning
 pub record Ahead (job : ℕ) (p : Procedure) (w₀ : World) (ks₀ : List ℕ) (w : World) (ks : List ℕ) : Type 0 where
@@ -37,4 +38,4 @@ pub record Ahead (job : ℕ) (p : Procedure) (w₀ : World) (ks₀ : List ℕ) (
   pub same-places : length (w .tiles) ≡ length (w₀ .tiles)
   pub same-slots : length (w .operations) ≡ length (w₀ .operations)
   pub same-journal : length (w .journal) ≡ length (w₀ .journal)
-  pub all-jobs : length (w .session .marks) ≡ 64
+  pub all-jobs : length (w .session .marks) ≡ jobCount

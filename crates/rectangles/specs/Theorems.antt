@@ -23,7 +23,7 @@ use Rattle.service.specs.Claims.{Keeps, RebuildsAlone, Serves, records}
 use Rattle.service.specs.Demands.{replay-exact}
 use Rattle.service.specs.Extents.{extentIn, upto}
 use Rattle.service.specs.History.{Call, From, history}
-use Rattle.service.specs.Limits.{jobCount, lastJob}
+use Rattle.service.specs.Limits.{jobCount, lastJob, operationSize, shortSize}
 use Rattle.service.specs.Sound.{soundB}
 use Rattle.service.specs.World.{World, freeBytes, state, usedJournal}
 use Rattle.rectangles.specs.Claims.{AllDone, Apart, Before, FirstHeld, FromMoves, Inside, Misshapen, Move, Shaped, bytesRunOut, callsOf, followed, leftBy, placesRunOut, recordsOf, refusingRectangle, slotsRunOut, written}
@@ -160,5 +160,5 @@ module _ {tiles : List ℕ} {count : ℕ} {operations journal : List ℕ} {cs : 
       ↔ (Strict Alone start-tiles with-them
       × ((chosen : Log Op) → Choice with-them chosen → length (run start-tiles chosen) ≤ length (w .tiles))
       × (length (state w .book .table) + length (keys (listed r)) ≤ length (w .operations))
-      × (10 * length (keys (listed r)) + 4 * openMarks (w .session .marks) ≤ freeBytes w))
+      × (operationSize * length (keys (listed r)) + shortSize * openMarks (w .session .marks) ≤ freeBytes w))
   rectangle-accepted-exact = rectangle-accepted from job change r is-open shaped

@@ -45,7 +45,7 @@ fn is_whole(command: Command) -> bool {
 }
 
 // A word with no number yet.
-fn alone(word: Word) -> Command {
+fn lone(word: Word) -> Command {
     Command {
         word,
         count: 0,
@@ -58,7 +58,7 @@ fn alone(word: Word) -> Command {
 fn with_number(command: Command, value: u64, negative: bool) -> Command {
     let count = command.count;
     if 6 <= count {
-        return alone(Word::Unknown);
+        return lone(Word::Unknown);
     }
     let mut longer = command;
     longer.values[count] = value;
@@ -71,12 +71,12 @@ fn with_number(command: Command, value: u64, negative: bool) -> Command {
 fn with_numbers(word: Word, line: &[u8], from: usize) -> Command
     requires { ⌜ from ≤ length (now line) ⌝ }
 {
-    let mut command = alone(word);
+    let mut command = lone(word);
     let mut at = from;
     while at < line.len() {
         let end = find(line, at + 1, b' ');
         match numbers::number_in(line, at + 1, end) {
-            Number::Nothing => return alone(Word::Unknown),
+            Number::Nothing => return lone(Word::Unknown),
             Number::Value { value, negative } => {
                 command = with_number(command, value, negative);
                 at = end;
@@ -91,7 +91,7 @@ pub fn parse(line: &[u8]) -> Command {
     let end = find(line, 0, b' ');
     let command = with_numbers(words::call_word(line, end), line, end);
     if !is_whole(command) {
-        return alone(Word::Unknown);
+        return lone(Word::Unknown);
     }
     command
 }

@@ -1,7 +1,7 @@
 -- THEOREMS ON EVERY WORLD. Each speaks of the definitions that the calls promise to keep, and so of the calls
 use mathlib.Core.Bool.{Bool, cond, false, true}
 use mathlib.Core.List.{List, [], _++_, _∷_, map}
-use mathlib.Core.Logic.{_↔_, _≢_, _⊎_, ⊎-elim}
+use mathlib.Core.Logic.{_↔_, _≢_, _⊎_}
 use mathlib.Core.Option.{none, some}
 use mathlib.Core.Path.{_∙_, _≡_, ap, refl, subst, sym}
 use Prim.Native.Nat.{_+_, _-_, _<_, _≤_, ℕ}
@@ -13,23 +13,26 @@ use borrow.Author.Tests.{eq-eqb, eqb-false, eqb-true, le-ltb, lt-ltb, ltb-false,
 use Rattle.lists.specs.Lists.{All}
 use Rattle.lists.specs.Truth.{both}
 use Rattle.strict.specs.Commutativity.{FirstHolder}
+use Rattle.strict.specs.Histories.{Event}
 use Rattle.strict.specs.Operations.{begun}
 use Rattle.strict.specs.Tiles.{member}
 use Rattle.strict.specs.declared.Procedure.{Procedure}
 use Rattle.strict.specs.declared.Rule.the-variants.{Alone, Together}
 use Rattle.strict.specs.declared.Rule.{Rule}
-use Rattle.service.specs.Admission.{answerTo, isOpen}
+use Rattle.service.specs.Admission.{State, answerTo, isOpen, openMarks}
 use Rattle.service.specs.Calls.{abortCall, carried, commitCall, concluded, fresh, openCall, operationCall, ruledWorld, startCall, startWorld}
-use Rattle.service.specs.Claims.{Because, ChangedByOther, Halts, Keeps, NoRoomByJob, Placeless, Serves, Stops, WantsOpen, holderIn, openBytes, operationBytes, refusing}
+use Rattle.service.specs.Claims.{Because, ChangedByOther, Halts, Keeps, Missing, Named, NoRoomByJob, Placeless, Serves, Tells, WantsOpen, holderIn, openBytes, operationBytes, refusing}
 use Rattle.service.specs.Entry.{opIn}
 use Rattle.service.specs.Extents.{recordSize}
 use Rattle.service.specs.History.{Call, call, event, jobOf, refusalsOf}
-use Rattle.service.specs.Journal.{encode, placeAfter, readAt, readCall, readNumber, readOffset, recordOf, ruleBytes, ruleIn}
+use Rattle.service.specs.Journal.{encode, front, heard, readAt, readCall, recordOf, ruleBytes, ruleIn}
 use Rattle.service.specs.Laws.Accepting.{after-stands, carried-bytes, carried-places, carried-slots, carried-sound, first-told, left-carried, lowest-told, none-told, passed, passes, told-listed}
 use Rattle.service.specs.Laws.Deciding.{accepted-told, held-by-other, held-names, room-by-job, told-eight, told-nine, told-seven}
-use Rattle.service.specs.Laws.Halting.{number-of-replay, refused-is, refused-just, starts-left}
+use Rattle.service.specs.Laws.Halting.{number-of-replay, refused-is, refused-just, starts-left, tells-stop}
 use Rattle.service.specs.Laws.Ordering.{open-told, told-five, told-four, told-one, told-three, told-two}
+use Rattle.service.specs.Laws.Outcomes.{cut-just, end-just}
 use Rattle.service.specs.Laws.Performing.{start-is, start-told}
+use Rattle.service.specs.Laws.Reading.{read-whole}
 use Rattle.service.specs.Laws.Ruling.{runs-by}
 use Rattle.service.specs.Laws.Soundness.{is-sound, sound-is}
 use Rattle.service.specs.Laws.Starting.{start-numbers, told-of-start}
@@ -38,7 +41,7 @@ use Rattle.service.specs.Laws.Storing.{open-small}
 use Rattle.service.specs.Laws.Whole.{bytes-encoded, in-front}
 use Rattle.service.specs.Laws.Wording.{settled-worded, worded-settled}
 use Rattle.service.specs.Limits.{jobCount, lastJob, mostBytes, mostOperations, shortSize}
-use Rattle.service.specs.Replay.{replayCall, stopped}
+use Rattle.service.specs.Replay.{Rebuilt, replayCall, stopped}
 use Rattle.service.specs.Sound.{AllSettled, Sound, Worded, soundB}
 use Rattle.service.specs.Tile.{keyOf}
 use Rattle.service.specs.Told.{Refusal, bare, done, refused}
@@ -214,16 +217,29 @@ pub whole-is-encoded : (journal : List ℕ) (at : ℕ) (r : Record) (next : ℕ)
     → take (next - at) (drop at journal) ≡ encode r
 whole-is-encoded journal at r next bytes reads = bytes-encoded journal at r next bytes reads
 
--- the reader tells 10 with its offset of a malformed record, and of that, of the end and of a cut tail it leaves the place
-pub ten-given : (journal : List ℕ) (at : ℕ) → readAt journal at ≡ Malformed
-    → (readCall journal at .number ≡ 10) × (readCall journal at .offset ≡ at) × (readCall journal at .place ≡ at)
-ten-given journal at e = (ap readNumber e, ap (λ r. readOffset r at) e, ap (λ r. placeAfter r at) e)
+-- and what a call would write is read as that
+pub encoded-is-whole : (journal : List ℕ) (at : ℕ) (e : Event) (s : State) (rest : List ℕ) → Named e → drop at journal ≡ encode (recordOf e (answerTo s e)) ++ rest
+    → readAt journal at ≡ Whole (recordOf e (answerTo s e)) (at + recordSize e)
+unfolding readAt
+encoded-is-whole journal at e s rest named is = ap (front at) is ∙ read-whole at e s rest named
 
-pub stays-there : (journal : List ℕ) (at : ℕ) → Stops (readAt journal at) → (readCall journal at .number ≡ 0) × (readCall journal at .place ≡ at)
-stays-there journal at stops = ⊎-elim (λ (e : readAt journal at ≡ End). told (refl, refl) e) (λ (e : readAt journal at ≡ Cut). told (refl, refl) e) stops
+-- the end is behind the last byte, and a tail is cut just where its tag is known, the length bytes that are there are right, and bytes are missing
+pub end-exact : (journal : List ℕ) (at : ℕ) → (readAt journal at ≡ End) ↔ (length journal ≤ at)
+end-exact journal at = end-just journal at
+
+pub cut-exact : (journal : List ℕ) (at : ℕ) → (readAt journal at ≡ Cut) ↔ Missing (drop at journal)
+cut-exact journal at = cut-just journal at
+
+-- the reader tells 10 and its offset of a malformed record, and 0 of all others
+pub reader-tells : (journal : List ℕ) (at : ℕ) → Tells at (readAt journal at) (readCall journal at)
+reader-tells journal at = go (readAt journal at)
   where
-    told : {r : Read} → (readNumber r ≡ 0) × (placeAfter r at ≡ at) → readAt journal at ≡ r → (readCall journal at .number ≡ 0) × (readCall journal at .place ≡ at)
-    told h e = (ap readNumber e ∙ h .0, ap (λ r. placeAfter r at) e ∙ h .1)
+    go : (r : Read) → Tells at r (heard r at)
+    go (Whole r next) = (refl, refl, refl)
+    go (Ruled next) = (refl, refl, refl)
+    go End = (refl, refl, refl)
+    go Cut = (refl, refl, refl)
+    go Malformed = (refl, refl, refl)
 
 -- the numbers are 0, 1, 10, 11 and 12
 pub replay-numbers : (journal tiles : List ℕ) (count : ℕ) (operations : List ℕ) →
@@ -231,7 +247,7 @@ pub replay-numbers : (journal tiles : List ℕ) (count : ℕ) (operations : List
     (n ≡ 1) ⊎ Halts n
 replay-numbers journal tiles count operations = number-of-replay journal tiles count operations
 
--- 1 is given just where a start would be refused or the journal is too long, and changes nothing
+-- 1 is given just where a start by the first rule, with no journal, would be refused or the journal is too long, and changes nothing
 pub replay-refused : (journal tiles : List ℕ) (count : ℕ) (operations : List ℕ) → replayCall journal tiles count operations .number ≡ 1
     → replayCall journal tiles count operations ≡ record { number = 1; offset = 0; undone = 0; count = count; tiles = tiles; operations = operations }
 replay-refused journal tiles count operations n = refused-is journal tiles count operations n
@@ -239,6 +255,15 @@ replay-refused journal tiles count operations n = refused-is journal tiles count
 pub replay-refused-exact : (journal tiles : List ℕ) (count : ℕ) (operations : List ℕ)
     → (replayCall journal tiles count operations .number ≡ 1) ↔ ((soundB (startWorld Alone tiles count operations []) ≡ false) ⊎ (mostBytes < length journal))
 replay-refused-exact journal tiles count operations = refused-just journal tiles count operations
+
+-- else it tells the number, the offset and the open jobs of where it stopped
+pub replay-tells : (journal tiles : List ℕ) (count : ℕ) (operations : List ℕ) →
+    let r = replayCall journal tiles count operations in
+    let h = stopped journal tiles count operations in
+    r .number ≢ 1 → (r .number ≡ h .number) × (r .offset ≡ h .offset) × (r .undone ≡ openMarks (h .reached .marks))
+replay-tells journal tiles count operations n =
+    let is = tells-stop journal tiles count operations n in
+    (ap (λ (r : Rebuilt). r .number) is, ap (λ (r : Rebuilt). r .offset) is, ap (λ (r : Rebuilt). r .undone) is)
 
 -- it runs by the rule that the journal begins with, and by the first where it begins with none
 pub replay-runs-by : (journal tiles : List ℕ) (count : ℕ) (operations : List ℕ) → stopped journal tiles count operations .reached .rule ≡ ruleIn (readAt journal 0)

@@ -7,17 +7,17 @@ use lib.IntN.{ℤ}
 use Rattle.service.specs.Tile.{packKey}
 use Rattle.service.specs.declared.Address.{Address}
 use Rattle.rectangles.specs.Claims.{Shaped}
-use Rattle.rectangles.specs.Rectangles.{area, height, keyFor, misshapen, outOfRange}
+use Rattle.rectangles.specs.Rectangles.{area, height, keyFor, misshapen, mostInRectangle, outOfRange}
 use Rattle.rectangles.specs.declared.Rectangle.{Rectangle}
-use Rattle.shapes.specs.declared.Shape.{Shape}
 use Rattle.shapes.specs.declared.Shape.the-variants.{Fine, Misshapen, OutOfRange}
+use Rattle.shapes.specs.declared.Shape.{Shape}
 
 abbrev pub cornerAt : ℕ → ℤ → ℤ → Address
 cornerAt z c y = record { zoom = z; column = c; row = y }
 
 -- 13, of a width and a height
 abbrev pub misfit : ℕ → ℕ → ℕ → Bool
-misfit zoom w h = eqb w 0 || (eqb h 0 || (ltb (2 ^ zoom) w || ltb 256 (w * h)))
+misfit zoom w h = eqb w 0 || (eqb h 0 || (ltb (2 ^ zoom) w || ltb mostInRectangle (w * h)))
 
 -- what is found of them
 abbrev pub Measures : ℕ → ℕ → ℕ → ℕ → Shape → Type 0

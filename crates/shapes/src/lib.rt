@@ -5,8 +5,10 @@ ghost use lib.ListN.{length, take};
 ghost use lib.Signed.{mag};
 ghost use Rattle.service.specs.Tile.{addressCall, placed};
 ghost use Rattle.rectangles.specs.Rectangles as report;
-ghost use Rattle.shapes.specs.declared.Shape.the-variants.{Fine};
+ghost use Rattle.rectangles.specs.Rectangles.{mostInRectangle};
 ghost use Rattle.shapes.specs.Shaping.{Measures, Shapes, Steps, cornerAt, stepped};
+ghost use Rattle.shapes.specs.declared.Shape.the-variants.{Fine};
+use rectangles::MOST_IN_RECTANGLE;
 use rectangles::Rectangle;
 use service::Address;
 use service::COLUMN_FACTOR;
@@ -83,11 +85,11 @@ fn measured(zoom: u8, corner: u32, width: usize, height: usize) -> Shape
     if (columns_of(zoom) as usize) < width {
         return Shape::Misshapen;
     }
-    if 256 < height {
+    if MOST_IN_RECTANGLE < height {
         return Shape::Misshapen;
     }
     let n = width * height;
-    if 256 < n {
+    if MOST_IN_RECTANGLE < n {
         return Shape::Misshapen;
     }
     Shape::Fine {
@@ -117,7 +119,7 @@ pub fn shape_of(r: Rectangle) -> Shape
 
 // The key of tile i of a rectangle, by steps from its first column. The columns go round the world; nothing is signed.
 fn key_at(zoom: u8, columns: u32, first: u32, north: u32, height: u32, i: u32) -> u32
-    requires { ⌜ Steps zoom columns first north height × (i < 256) ⌝ }
+    requires { ⌜ Steps zoom columns first north height × (i < mostInRectangle) ⌝ }
     ensures { λ r. ⌜ r ≡ stepped zoom columns first north height i ⌝ }
 {
     zoom as u32 * ZOOM_FACTOR
@@ -127,7 +129,7 @@ fn key_at(zoom: u8, columns: u32, first: u32, north: u32, height: u32, i: u32) -
 
 // Lists the keys of n tiles by such steps.
 fn list_keys(zoom: u8, columns: u32, first: u32, north: u32, height: u32, n: u32, keys: &mut [u32])
-    requires { ⌜ Steps zoom columns first north height × (n ≤ 256) × (n ≤ length (now keys)) ⌝ }
+    requires { ⌜ Steps zoom columns first north height × (n ≤ mostInRectangle) × (n ≤ length (now keys)) ⌝ }
     ensures { λ _. ⌜ (length (now (keys .exit)) ≡ length (now (keys .entry)))
         × (take n (now (keys .exit)) ≡ report.sequence (stepped zoom columns first north height) 0 n) ⌝ }
 {

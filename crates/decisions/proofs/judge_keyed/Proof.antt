@@ -5,15 +5,16 @@ use Prim.Native.Nat.{_*_, _+_}
 use borrow.Author.Needs.{needs}
 use borrow.Author.Tests.{le-ltb, lt-ltb}
 use denote.Ref.{now}
+use Rattle.service.specs.Admission.{openMarks}
+use Rattle.service.specs.Laws.Soundness.{retabled}
+use Rattle.service.specs.Limits.{operationSize, shortSize}
+use Rattle.service.specs.World.{World, world}
 use Rattle.admission.specs.Laws.{verdict-seen}
 use Rattle.admission.specs.declared.Verdict.the-variants.{NoOperationRoom, NoTileRoom}
 use Rattle.admission.specs.declared.Verdict.{Verdict}
-use Rattle.service.specs.Admission.{openMarks}
-use Rattle.service.specs.Laws.Soundness.{retabled}
-use Rattle.service.specs.World.{World, world}
+use Rattle.decisions.specs.Laws.{Meaning, judges-held, judges-no-bytes, judges-no-place, judges-no-slot, judges-perform}
 use Rattle.decisions.proofs.judge_keyed.Statement.{statement}
 use Rattle.decisions.proofs.judge_keyed.Tie as tie
-use Rattle.decisions.specs.Laws.{Meaning, judges-held, judges-no-bytes, judges-no-place, judges-no-slot, judges-perform}
 
 -- what the function was given
 abbrev given : tie.Start → World
@@ -58,7 +59,7 @@ returns c =
     let seen = c .before .before .before in
     let s = seen .before .before .before .before .before .before in
     judges-no-bytes (given s) (s .args .job) (s .args .procedure) (s .args .key) _ (meaning (seen .before .before) _ (seen .spot .given .1))
-    (lt-ltb _ (10 + 4 * openMarks (s .args .session .marks)) (rw (sym (c .before .open-jobs .ensures .0)) (c .if1 .taken)))
+    (lt-ltb _ (operationSize + shortSize * openMarks (s .args .session .marks)) (rw (sym (c .before .open-jobs .ensures .0)) (c .if1 .taken)))
 
 returns-2 : tie.Need-returns-2
 returns-2 c =
@@ -80,7 +81,7 @@ returns-5 c =
     let seen = c .before .before .before in
     let s = seen .before .before .before .before .before .before in
     judges-perform (given s) (s .args .job) (s .args .procedure) (s .args .key) _ (meaning (seen .before .before) _ (seen .spot .given .1))
-    (le-ltb _ (10 + 4 * openMarks (s .args .session .marks)) (rw (sym (c .before .open-jobs .ensures .0)) (c .if1 .left)))
+    (le-ltb _ (operationSize + shortSize * openMarks (s .args .session .marks)) (rw (sym (c .before .open-jobs .ensures .0)) (c .if1 .left)))
 
 pub judge-keyed-spec : {M : Type 1} → statement M
 judge-keyed-spec =

@@ -27,6 +27,7 @@ use Rattle.service.specs.Demands.{all-marks, reached}
 use Rattle.service.specs.History.{Call, From, history}
 use Rattle.service.specs.Laws.Performing.{arrived}
 use Rattle.service.specs.Laws.Soundness.{sound-is}
+use Rattle.service.specs.Limits.{operationSize, shortSize}
 use Rattle.service.specs.World.{World, freeBytes, state}
 use Rattle.service.specs.declared.Address.{Address}
 use Rattle.rectangles.specs.Claims.{Shaped, callsOf, followed, operations}
@@ -150,7 +151,7 @@ module _ {tiles : List ℕ} {count : ℕ} {lent journal : List ℕ} {cs : Log Ca
       ↔ (Strict Alone s added
       × ((chosen : Log Op) → Choice added chosen → length (run s chosen) ≤ N)
       × (length (state w .book .table) + length ks ≤ length (w .operations))
-      × (10 * length ks + 4 * openMarks (w .session .marks) ≤ freeBytes w))
+      × (operationSize * length ks + shortSize * openMarks (w .session .marks) ≤ freeBytes w))
   rectangle-accepted = (
     λ e. let f = passed-fits w job change r e in let strict = free-iff .0 (f .unheld) in (strict, fits-iff strict .0 (f .places), f .slots, f .bytes),
     λ c. fits-passed w job change r shaped

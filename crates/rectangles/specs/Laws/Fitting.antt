@@ -1,12 +1,12 @@
 -- A list of operations on different tiles: it fits just where its operations, called one after another, are all done
-use mathlib.Core.Bool.{Bool, _&&_, false, not, true}
-use mathlib.Core.List.{List, [], _++_, _∷_}
+use mathlib.Core.Bool.{Bool, _&&_, false, true}
+use mathlib.Core.List.{List, [], _∷_}
 use mathlib.Core.Logic.{_≢_}
 use mathlib.Core.Option.{Option, none, some}
 use mathlib.Core.Path.{_∙_, _≡_, ap, refl, subst, sym}
-use Prim.Native.Nat.{_*_, _+_, _<_, _≤_, ℕ}
+use Prim.Native.Nat.{_+_, _<_, _≤_, ℕ}
 use native.Mathlib.Omega.{arith}
-use lib.Dec.{eqb, ltb}
+use lib.Dec.{eqb}
 use lib.ListN.{getD, length, length-append}
 use lib.Seq.{length-sets, slice}
 use borrow.Author.Tests.{le-ltb, ltb-false, ne-eqb, not-false}
@@ -17,21 +17,21 @@ use Rattle.strict.specs.Histories.{operation}
 use Rattle.strict.specs.Laws.Room.{room-operation}
 use Rattle.strict.specs.Operations.{begun}
 use Rattle.strict.specs.declared.Procedure.{Procedure}
-use Rattle.service.specs.Admission.{State, admission, answerTo, openMarks, refusals}
-use Rattle.service.specs.Calls.{carried, keyedRefusals, operationRefusals}
+use Rattle.service.specs.Admission.{State, answerTo, refusals}
+use Rattle.service.specs.Calls.{carried, keyedRefusals}
 use Rattle.service.specs.Claims.{Passes, Serves, operationBytes}
 use Rattle.service.specs.History.{Call, call, event, operating}
 use Rattle.service.specs.Journal.{encode, recordOf}
-use Rattle.service.specs.Laws.Accepting.{accepted, carried-places, carried-slots, carried-sound, carried-state, left-carried, none-told, passed, passes, record-size, serves-is}
+use Rattle.service.specs.Laws.Accepting.{accepted, carried-places, carried-slots, carried-sound, carried-state, left-carried, passed, passes, record-size, serves-is}
 use Rattle.service.specs.Laws.Keys.{key-valid}
 use Rattle.service.specs.Laws.Soundness.{is-sound, sound-is}
 use Rattle.service.specs.Laws.Storing.{tabled-stands}
-use Rattle.service.specs.Laws.Telling.{Passed, none-applies, not-held, unrefused}
+use Rattle.service.specs.Laws.Telling.{Passed, not-held, unrefused}
+use Rattle.service.specs.Limits.{jobCount, lastJob, operationSize}
 use Rattle.service.specs.Tile.{isKey, keyOf, placedAt}
-use Rattle.service.specs.Told.{Refusal, refuse, refuseHeld}
+use Rattle.service.specs.Told.{refuseHeld}
 use Rattle.service.specs.World.{World, freeBytes, state}
 use Rattle.service.specs.declared.Address.{Address}
-use Rattle.service.specs.declared.Told.{Told}
 use Rattle.rectangles.specs.Claims.{AllDone, Apart, leftBy, operations}
 use Rattle.rectangles.specs.Fitting.{Ahead, Fits, Placed}
 use Rattle.rectangles.specs.Laws.Apart.{first-held-same, needed-same}
@@ -63,7 +63,7 @@ module _ (w : World) (job : ℕ) (p : Procedure) (a : Address) where
       accepted w one .1 (v .0, (v .1 .0, (v .1 .1 .0, (placed, last))))
 
 -- what an operation that may happen leaves fits the rest just where the world fits the list
-module _ (w : World) (job : ℕ) (p : Procedure) (k : ℕ) (full : length (w .session .marks) ≡ 64) (may : Passes w (operation job p k)) where
+module _ (w : World) (job : ℕ) (p : Procedure) (k : ℕ) (full : length (w .session .marks) ≡ jobCount) (may : Passes w (operation job p k)) where
   abbrev then : World
   then = carried w (operation job p k)
 
@@ -76,7 +76,7 @@ module _ (w : World) (job : ℕ) (p : Procedure) (k : ℕ) (full : length (w .se
     places-then : length (then .tiles) ≡ length (w .tiles)
     slots-then : length (then .operations) ≡ length (w .operations)
     journal-then : length (then .journal) ≡ length (w .journal)
-    bytes-then : freeBytes then + 10 ≡ freeBytes w
+    bytes-then : freeBytes then + operationSize ≡ freeBytes w
 
   moves : (ks : List ℕ) → All (λ i. k ≢ i) ks → Moves ks
   moves ks apart =
@@ -89,7 +89,7 @@ module _ (w : World) (job : ℕ) (p : Procedure) (k : ℕ) (full : length (w .se
       let book : state then .book ≡ n = ap (λ (s : State). s .book) (carried-state w e full may) in
       let grown : spokenFor (w .session .rule) n ≡ spokenFor (w .session .rule) m + oneIf (needsPlace (w .session .rule) (m .table) (begun job p k (m .tiles))) = room-operation (w .session .rule) m job p k (may .sound-before .tables .ascending) in
       let same : needed (w .session .rule) n job p ks ≡ needed (w .session .rule) m job p ks = needed-same (w .session .rule) m job p k ks apart in
-      let long : length bytes ≡ 10 = record-size e (answerTo (state w) e) in
+      let long : length bytes ≡ operationSize = record-size e (answerTo (state w) e) in
       let kept : length (then .journal) ≡ length (w .journal) = length-sets (w .journal) (w .session .journal) bytes in
       let fit = may .bytes-fit in
       let is-open = not-false _ (h .0) in
@@ -126,7 +126,7 @@ module _ (w : World) (job : ℕ) (p : Procedure) (k : ℕ) (full : length (w .se
 
 module _ (job : ℕ) (p : Procedure) where
   -- from the last to the first: what is left to do fits
-  pub done-fits : (xs : List Address) (w : World) → Apart (keys xs) → length (w .session .marks) ≡ 64
+  pub done-fits : (xs : List Address) (w : World) → Apart (keys xs) → length (w .session .marks) ≡ jobCount
       → Serves w job → AllDone w (operations job p xs) → Fits w job p (keys xs)
   done-fits [] w apart full ready done =
       let o = sound-is w (ready .is-sound-there) in
@@ -145,7 +145,7 @@ module _ (job : ℕ) (p : Procedure) where
       fits-before w job p (keyFor a) full may (keys xs) (apart .0)
       (done-fits xs (carried w (event c)) (apart .1) full (still-ready w job p (keyFor a) full may) rest)
 
-  pub fits-done : (xs : List Address) (w : World) → Apart (keys xs) → Placed xs → length (w .session .marks) ≡ 64
+  pub fits-done : (xs : List Address) (w : World) → Apart (keys xs) → Placed xs → length (w .session .marks) ≡ jobCount
       → Fits w job p (keys xs) → AllDone w (operations job p xs) × (leftBy w (operations job p xs) ≡ carriedAll w job p (keys xs))
   fits-done [] w apart placed full fits = (tt, refl)
   fits-done (a ∷ xs) w apart placed full fits =
@@ -162,7 +162,7 @@ module _ (job : ℕ) (p : Procedure) where
 pub done-ready : (w : World) (job : ℕ) (p : Procedure) (a : Address) → call w (operating job p a) .told .number ≡ 0 → Serves w job
 done-ready w job p a ok =
     let h = passed w (operating job p a) ok in
-    record { is-sound-there = not-false _ (h .0); small = ltb-false 63 job (h .1 .0); is-open = not-false _ (h .1 .1 .0) }
+    record { is-sound-there = not-false _ (h .0); small = ltb-false lastJob job (h .1 .0); is-open = not-false _ (h .1 .1 .0) }
 
 -- THE PASS THAT CARRIES OUT
 -- the first of a list that fits may happen
@@ -178,7 +178,7 @@ fits-passes w job p k ks valid f =
     (passes w c (passed w c (first-done w job p a ks placed (subst (λ x. Fits w job p (x ∷ ks)) (sym same) f))))
 
 module _ {job : ℕ} {p : Procedure} where
-  pub ahead-start : (w : World) (ks : List ℕ) → length (w .session .marks) ≡ 64 → All (λ k. isKey k ≡ true) ks → Apart ks → Fits w job p ks → Ahead job p w ks w ks
+  pub ahead-start : (w : World) (ks : List ℕ) → length (w .session .marks) ≡ jobCount → All (λ k. isKey k ≡ true) ks → Apart ks → Fits w job p ks → Ahead job p w ks w ks
   ahead-start w ks full valid apart fits =
       record { valid = valid; apart = apart; fits = fits; ahead = refl; same-places = refl; same-slots = refl; same-journal = refl; all-jobs = full }
 

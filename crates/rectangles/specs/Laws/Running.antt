@@ -17,6 +17,7 @@ use Rattle.strict.specs.Tiles.{Ascending}
 use Rattle.strict.specs.declared.Procedure.{Procedure}
 use Rattle.strict.specs.declared.Rule.{Rule}
 use Rattle.service.specs.Laws.Standing.{room-left}
+use Rattle.service.specs.Limits.{operationSize, shortSize}
 use Rattle.rectangles.specs.Claims.{Apart, bytesRunOut, placesRunOut, slotsRunOut}
 use Rattle.rectangles.specs.Laws.Apart.{needed-same}
 use Rattle.rectangles.specs.Rectangles.{needed}
@@ -61,16 +62,16 @@ module _ (rule : Rule) (job : ℕ) (p : Procedure) where
       go true e ih = let q = eqb-true (length (m .table)) slots e in sym (lt-ltb slots (length (m .table) + suc (length ks)) (omega arith))
       go false e ih = let q : length (m .table) ≡ slots → ⊥ = eqb-false (length (m .table)) slots e in ih (omega arith)
 
-pub bytes-run-out : (free n : ℕ) (ks : List ℕ) → 4 * n ≤ free → bytesRunOut free n ks ≡ ltb free (10 * length ks + 4 * n)
-bytes-run-out free n [] l = sym (le-ltb free (10 * 0 + 4 * n) (omega arith))
-bytes-run-out free n (k ∷ ks) l = go (ltb free (10 + 4 * n)) refl (λ f. bytes-run-out (free - 10) n ks (omega arith))
+pub bytes-run-out : (free n : ℕ) (ks : List ℕ) → shortSize * n ≤ free → bytesRunOut free n ks ≡ ltb free (operationSize * length ks + shortSize * n)
+bytes-run-out free n [] l = sym (le-ltb free (operationSize * 0 + shortSize * n) (omega arith))
+bytes-run-out free n (k ∷ ks) l = go (ltb free (operationSize + shortSize * n)) refl (λ f. bytes-run-out (free - operationSize) n ks (omega arith))
   where
-    go : (c : Bool) → ltb free (10 + 4 * n) ≡ c
-        → (10 + 4 * n ≤ free → bytesRunOut (free - 10) n ks ≡ ltb (free - 10) (10 * length ks + 4 * n))
-        → c || bytesRunOut (free - 10) n ks ≡ ltb free (10 * suc (length ks) + 4 * n)
-    go true e ih = let q = ltb-true free (10 + 4 * n) e in sym (lt-ltb free (10 * suc (length ks) + 4 * n) (omega arith))
-    go false e ih = let q = ltb-false free (10 + 4 * n) e in ih q ∙ shifted (ltb (free - 10) (10 * length ks + 4 * n)) refl
+    go : (c : Bool) → ltb free (operationSize + shortSize * n) ≡ c
+        → (operationSize + shortSize * n ≤ free → bytesRunOut (free - operationSize) n ks ≡ ltb (free - operationSize) (operationSize * length ks + shortSize * n))
+        → c || bytesRunOut (free - operationSize) n ks ≡ ltb free (operationSize * suc (length ks) + shortSize * n)
+    go true e ih = let q = ltb-true free (operationSize + shortSize * n) e in sym (lt-ltb free (operationSize * suc (length ks) + shortSize * n) (omega arith))
+    go false e ih = let q = ltb-false free (operationSize + shortSize * n) e in ih q ∙ shifted (ltb (free - operationSize) (operationSize * length ks + shortSize * n)) refl
       where
-        shifted : (d : Bool) → ltb (free - 10) (10 * length ks + 4 * n) ≡ d → d ≡ ltb free (10 * suc (length ks) + 4 * n)
-        shifted true f = let g = ltb-true (free - 10) (10 * length ks + 4 * n) f in sym (lt-ltb free (10 * suc (length ks) + 4 * n) (omega arith))
-        shifted false f = let g = ltb-false (free - 10) (10 * length ks + 4 * n) f in let q = ltb-false free (10 + 4 * n) e in sym (le-ltb free (10 * suc (length ks) + 4 * n) (omega arith))
+        shifted : (d : Bool) → ltb (free - operationSize) (operationSize * length ks + shortSize * n) ≡ d → d ≡ ltb free (operationSize * suc (length ks) + shortSize * n)
+        shifted true f = let g = ltb-true (free - operationSize) (operationSize * length ks + shortSize * n) f in sym (lt-ltb free (operationSize * suc (length ks) + shortSize * n) (omega arith))
+        shifted false f = let g = ltb-false (free - operationSize) (operationSize * length ks + shortSize * n) f in let q = ltb-false free (operationSize + shortSize * n) e in sym (le-ltb free (operationSize * suc (length ks) + shortSize * n) (omega arith))

@@ -12,8 +12,8 @@ Inv-loop line from command₀ at₀ command at = at ≤ length line
 abbrev μ-loop : tie.MeasureT-loop
 μ-loop line from command₀ at₀ command at = length line - at
 
-alone-requires : tie.Need-alone-requires Inv-loop μ-loop
-alone-requires c κs = search needs
+lone-requires : tie.Need-lone-requires Inv-loop μ-loop
+lone-requires c κs = search needs
 
 loop-holds : tie.Need-loop-holds Inv-loop μ-loop
 loop-holds c = omega arith
@@ -33,8 +33,8 @@ number-in-requires c κs = search needs
 enum-told : tie.Need-enum-told Inv-loop μ-loop
 enum-told c = search needs
 
-alone-requires-2 : tie.Need-alone-requires-2 Inv-loop μ-loop
-alone-requires-2 c κs = search needs
+lone-requires-2 : tie.Need-lone-requires-2 Inv-loop μ-loop
+lone-requires-2 c κs = search needs
 
 returns : tie.Need-returns Inv-loop μ-loop
 returns c = tt
@@ -60,14 +60,14 @@ with-numbers-spec =
     (tie.spec
     Inv-loop
     μ-loop
-    alone-requires
+    lone-requires
     loop-holds
     add-find
     find-requires
     add-number-in
     number-in-requires
     enum-told
-    alone-requires-2
+    lone-requires-2
     returns
     enum-known-value
     with-number-requires
