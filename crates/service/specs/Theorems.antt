@@ -25,12 +25,12 @@ use Rattle.service.specs.Claims.{Because, ChangedByOther, Halts, Keeps, 
 use Rattle.service.specs.Entry.{opIn}
 use Rattle.service.specs.Extents.{recordSize}
 use Rattle.service.specs.History.{Call, call, event, jobOf, refusalsOf}
-use Rattle.service.specs.Journal.{encode, front, heard, readAt, readCall, recordOf, ruleBytes, ruleIn}
+use Rattle.service.specs.Journal.{encode, front, readAt, readCall, recordOf, ruleBytes, ruleIn}
 use Rattle.service.specs.Laws.Accepting.{after-stands, carried-bytes, carried-places, carried-slots, carried-sound, first-told, left-carried, lowest-told, none-told, passed, passes, told-listed}
 use Rattle.service.specs.Laws.Deciding.{accepted-told, held-by-other, held-names, room-by-job, told-eight, told-nine, told-seven}
 use Rattle.service.specs.Laws.Halting.{number-of-replay, refused-is, refused-just, starts-left, tells-stop}
 use Rattle.service.specs.Laws.Ordering.{open-told, told-five, told-four, told-one, told-three, told-two}
-use Rattle.service.specs.Laws.Outcomes.{cut-just, end-just}
+use Rattle.service.specs.Laws.Outcomes.{cut-just, end-just, tells-so}
 use Rattle.service.specs.Laws.Performing.{start-is, start-told}
 use Rattle.service.specs.Laws.Reading.{read-whole}
 use Rattle.service.specs.Laws.Ruling.{runs-by}
@@ -47,8 +47,7 @@ use Rattle.service.specs.Tile.{keyOf}
 use Rattle.service.specs.Told.{Refusal, bare, done, refused}
 use Rattle.service.specs.World.{Reported, World, freeBytes, state, usedJournal, usedOperations, usedTiles, world}
 use Rattle.service.specs.declared.Address.{Address}
-use Rattle.service.specs.declared.Read.the-variants.{Cut, End, Malformed, Ruled, Whole}
-use Rattle.service.specs.declared.Read.{Read}
+use Rattle.service.specs.declared.Read.the-variants.{Cut, End, Ruled, Whole}
 use Rattle.service.specs.declared.Record.{Record}
 
 -- 1. ONE NUMBER FROM THE LIST, AND A REFUSAL CHANGES NOTHING
@@ -232,14 +231,7 @@ cut-exact journal at = cut-just journal at
 
 -- the reader tells 10 and its offset of a malformed record, and 0 of all others
 pub reader-tells : (journal : List ℕ) (at : ℕ) → Tells at (readAt journal at) (readCall journal at)
-reader-tells journal at = go (readAt journal at)
-  where
-    go : (r : Read) → Tells at r (heard r at)
-    go (Whole r next) = (refl, refl, refl)
-    go (Ruled next) = (refl, refl, refl)
-    go End = (refl, refl, refl)
-    go Cut = (refl, refl, refl)
-    go Malformed = (refl, refl, refl)
+reader-tells journal at = tells-so at (readAt journal at)
 
 -- the numbers are 0, 1, 10, 11 and 12
 pub replay-numbers : (journal tiles : List ℕ) (count : ℕ) (operations : List ℕ) →

@@ -10,8 +10,8 @@ use lib.Dec.{eqb, ltb}
 use lib.ListN.{drop, drop-of-length-le, getD, length, length-drop, take}
 use borrow.Author.Tests.{eqb-false, lt-ltb, ltb-true, ne-eqb, not-false}
 use Rattle.lists.specs.Truth.{both-false, never, or-left, or-right}
-use Rattle.service.specs.Claims.{Missing}
-use Rattle.service.specs.Journal.{agree, field, fieldLength, front, readAt, ruleField, whole}
+use Rattle.service.specs.Claims.{Missing, Tells}
+use Rattle.service.specs.Journal.{agree, field, fieldLength, front, heard, readAt, ruleField, whole}
 use Rattle.service.specs.declared.Read.the-variants.{Cut, End, Malformed, Ruled, Whole}
 use Rattle.service.specs.declared.Read.{Read}
 use Rattle.service.specs.declared.Record.{Record}
@@ -84,3 +84,11 @@ module _ (journal : List ℕ) (at : ℕ) where
   pub cut-just : (readAt journal at ≡ Cut) ↔ Missing (drop at journal)
   unfolding readAt
   cut-just = cut-there at (drop at journal)
+
+-- WHAT IS TOLD OF IT
+pub tells-so : (at : ℕ) (r : Read) → Tells at r (heard r at)
+tells-so at (Whole r next) = (refl, refl, refl)
+tells-so at (Ruled next) = (refl, refl, refl)
+tells-so at End = (refl, refl, refl)
+tells-so at Cut = (refl, refl, refl)
+tells-so at Malformed = (refl, refl, refl)
