@@ -38,7 +38,7 @@ use Rattle.service.specs.Laws.Soundness.{is-sound, sound-is}
 use Rattle.service.specs.Laws.Starting.{start-numbers, told-of-start}
 use Rattle.service.specs.Laws.Stopping.{stopped-because, stops-there}
 use Rattle.service.specs.Laws.Storing.{open-small}
-use Rattle.service.specs.Laws.Whole.{bytes-encoded, in-front}
+use Rattle.service.specs.Laws.Whole.{bytes-encoded, in-front, read-rule}
 use Rattle.service.specs.Laws.Wording.{settled-worded, worded-settled}
 use Rattle.service.specs.Limits.{jobCount, lastJob, mostBytes, mostOperations, shortSize}
 use Rattle.service.specs.Replay.{Rebuilt, replayCall, stopped}
@@ -291,3 +291,8 @@ rule-in-front journal at next e =
     let f = in-front at next (drop at journal) e in
     let whole : journal ≡ 5 ∷ 0 ∷ 1 ∷ 2 ∷ f .behind = ap (λ x. drop x journal) (sym (f .first-place)) ∙ f .is-rule in
     (f .first-place, f .next-place, ap (take shortSize) whole)
+
+-- and there it is read, whatever stands behind it
+pub rule-is-read : (rest : List ℕ) → readAt (ruleBytes Together ++ rest) 0 ≡ Ruled shortSize
+unfolding readAt
+rule-is-read rest = read-rule rest
