@@ -22,8 +22,9 @@ use Rattle.strict.specs.Operations.{Op, begun}
 use Rattle.strict.specs.declared.Procedure.{Procedure}
 use Rattle.strict.specs.declared.Rule.{Rule}
 use Rattle.strict.specs.declared.Rule.the-variants.{Alone, Together}
-use Rattle.tiles.specs.Laws.{zeros-table}
-use Rattle.tiles.specs.Table.{TileTable, spotOf}
+use Rattle.search.specs.Laws.{zeros-table}
+use Rattle.search.specs.Table.{TileTable}
+use Rattle.tiles.specs.Table.{spotOf}
 use Rattle.tiles.specs.declared.Spot.{Spot}
 use Rattle.admission.specs.Verdicts.{byHolder, verdictOf}
 use Rattle.admission.specs.declared.Verdict.the-variants.{Admitted, Held, NoOperationRoom, NoTileRoom}

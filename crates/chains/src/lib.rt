@@ -12,7 +12,7 @@ ghost use Rattle.strict.specs.Tiles.{member};
 ghost use Rattle.strict.specs.declared.Rule.the-variants.{Together};
 ghost use Rattle.service.specs.Entry.{keyIn, kindIn, opIn};
 ghost use Rattle.service.specs.Sound.{settledB};
-ghost use Rattle.tiles.specs.Table.{TileTable};
+ghost use Rattle.search.specs.Table.{TileTable};
 ghost use Rattle.scans.specs.Tests.{elsewhere, settledAt};
 ghost use Rattle.chains.specs.Chains.{followed, linked, nearSlot, passed, startOf};
 use service::Session;

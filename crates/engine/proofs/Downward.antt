@@ -13,8 +13,8 @@ use Rattle.lists.specs.Lists.{padded}
 use Rattle.strict.specs.Book.{counted}
 use Rattle.service.specs.Entry.{jobIn, opIn}
 use Rattle.service.specs.Laws.Storing.{length-padded, used-padded}
-use Rattle.tiles.specs.Laws.{padded-table, used-length}
-use Rattle.tiles.specs.Table.{TileTable}
+use Rattle.search.specs.Laws.{padded-table, used-length}
+use Rattle.search.specs.Table.{TileTable}
 use Rattle.engine.specs.Undoing.{recovered, recoveredJob}
 use Rattle.engine.proofs.Laws.{undone-ascending, undone-fits}
 

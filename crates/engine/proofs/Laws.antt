@@ -16,8 +16,8 @@ use Rattle.strict.specs.Laws.Members.{ascending-apply}
 use Rattle.strict.specs.Laws.Room.{length-insert}
 use Rattle.strict.specs.Operations.{clear, put}
 use Rattle.strict.specs.Tiles.{Ascending, delete, insertTile, member}
-use Rattle.tiles.specs.Laws.{used-length}
-use Rattle.tiles.specs.Table.{TileTable}
+use Rattle.search.specs.Laws.{used-length}
+use Rattle.search.specs.Table.{TileTable}
 use Rattle.engine.specs.Forms.{recover-entries}
 use Rattle.engine.specs.Undoing.{recovered, recoveredJob}
 

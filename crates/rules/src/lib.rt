@@ -6,7 +6,7 @@ ghost use lib.ListN.{length, take};
 ghost use Rattle.strict.specs.Book.{besides};
 ghost use Rattle.service.specs.Entry.{opIn};
 ghost use Rattle.service.specs.Sound.{settledB};
-ghost use Rattle.tiles.specs.Table.{TileTable};
+ghost use Rattle.search.specs.Table.{TileTable};
 ghost use Rattle.entries.specs.Table.{firstPlace};
 ghost use Rattle.rules.specs.Rules.{holdsBy, wantsPlace};
 use entries::Holder;

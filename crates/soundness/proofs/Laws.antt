@@ -21,8 +21,8 @@ use Rattle.service.specs.declared.Session.{Session}
 use Rattle.strict.specs.Book.{besides, spokenFor}
 use Rattle.strict.specs.Laws.Room.{nothing-besides}
 use Rattle.strict.specs.declared.Rule.{Rule}
-use Rattle.tiles.specs.Laws.{zeros-table}
-use Rattle.tiles.specs.Table.{TileTable}
+use Rattle.search.specs.Laws.{zeros-table}
+use Rattle.search.specs.Table.{TileTable}
 use Rattle.soundness.specs.Tests.{countTests}
 
 -- THE TABLES

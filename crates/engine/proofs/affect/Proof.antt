@@ -1,7 +1,7 @@
 -- `engine::affect` meets its contract: each procedure is what its effect says
 use mathlib.Core.Path.{sym}
 use borrow.Author.Needs.{needs}
-use Rattle.tiles.specs.Laws.{used-length}
+use Rattle.search.specs.Laws.{used-length}
 use Rattle.engine.proofs.Laws.{place-for}
 use Rattle.engine.proofs.affect.Statement.{statement}
 use Rattle.engine.proofs.affect.Tie as tie

@@ -4,7 +4,8 @@ use lib.ListN.{take}
 use borrow.Author.Needs.{needs}
 use denote.Ref.{now}
 use Rattle.service.specs.Entry.{kindIn}
-use Rattle.tiles.specs.Laws.{spot-named, used-length}
+use Rattle.search.specs.Laws.{used-length}
+use Rattle.tiles.specs.Laws.{spot-named}
 use Rattle.tiles.specs.declared.Spot.{Spot}
 use Rattle.engine.proofs.Laws.{place-for, recovered-one, recovered-other, recovered-three}
 use Rattle.engine.proofs.recover.Statement.{statement}
