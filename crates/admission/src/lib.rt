@@ -102,7 +102,7 @@ pub fn admit(
     let kind = kind(procedure, spot.there);
     let holder = rules::first_holder(rule, operations, used, job, kind, key);
     if let Holder::At(place) = holder {
-        return Verdict::Held(entries::job_in(operations[place]));
+        return Verdict::Held(layout::job_in(operations[place]));
     }
     if lacks_place(session, tiles, operations, kind, key) {
         return Verdict::NoTileRoom;

@@ -38,10 +38,10 @@ fn slot_of(key: u32) -> usize
 fn is_delete_of(e: u64, key: u32) -> bool
     ensures { λ r. ⌜ r ≡ (eqb (kindIn e) 3 && eqb key (keyIn e)) ⌝ }
 {
-    if entries::kind_in(e) != 3 {
+    if layout::kind_in(e) != 3 {
         return false;
     }
-    key == entries::key_in(e)
+    key == layout::key_in(e)
 }
 
 // Whether some entry from `from` on deleted the tile `key`.
@@ -100,10 +100,10 @@ pub fn count_absent(tiles: &[u32], used: usize, operations: &[u64], count: usize
     while 0 < i {
         i -= 1;
         let e = operations[i];
-        if entries::kind_in(e) != 3 {
+        if layout::kind_in(e) != 3 {
             continue;
         }
-        let key = entries::key_in(e);
+        let key = layout::key_in(e);
         let s = slot_of(key);
         absent += last_absent(
             tiles,
@@ -122,10 +122,10 @@ pub fn count_absent(tiles: &[u32], used: usize, operations: &[u64], count: usize
 fn is_passed(e: u64, f: u64) -> bool
     ensures { λ r. ⌜ r ≡ passed e f ⌝ }
 {
-    if entries::key_in(e) != entries::key_in(f) {
+    if layout::key_in(e) != layout::key_in(f) {
         return true;
     }
-    if entries::job_in(e) != entries::job_in(f) {
+    if layout::job_in(e) != layout::job_in(f) {
         return false;
     }
     !scans::is_changing(f)
@@ -135,10 +135,10 @@ fn is_passed(e: u64, f: u64) -> bool
 fn is_linked(e: u64, f: u64) -> bool
     ensures { λ r. ⌜ r ≡ linked e f ⌝ }
 {
-    if entries::job_in(f) != entries::job_in(e) {
+    if layout::job_in(f) != layout::job_in(e) {
         return false;
     }
-    entries::kind_in(e) != entries::kind_in(f)
+    layout::kind_in(e) != layout::kind_in(f)
 }
 
 // Whether what comes after `e`, that changed its tile, goes on from it: the first that decides does, and where there is none the tile is as `e` left it.
@@ -198,7 +198,7 @@ pub fn is_chained(session: Session, tiles: &[u32], operations: &[u64]) -> bool
     let mut i = count;
     while 0 < i {
         i -= 1;
-        let s = slot_of(entries::key_in(operations[i]));
+        let s = slot_of(layout::key_in(operations[i]));
         if !entry_chained(tiles, used, operations, i, start_of(near[s], count), count) {
             return false;
         }

@@ -50,7 +50,7 @@ fn look_at(
     let kind = admission::kind(procedure, tiles::is_present(tiles, count, key));
     let holder = rules::first_holder(rule, operations, used, job, kind, key);
     if let Holder::At(place) = holder {
-        return Seen::Held(entries::job_in(operations[place]));
+        return Seen::Held(layout::job_in(operations[place]));
     }
     Seen::Free(rules::needs_place(rule, operations, used, kind, key))
 }

@@ -1,8 +1,8 @@
--- `entries::key_in` meets its contract: a part of the number
+-- `layout::key_in` meets its contract: a part of the number
 use borrow.Author.Needs.{needs}
 use mathlib.Core.Path.{refl}
-use Rattle.entries.proofs.key_in.Statement.{statement}
-use Rattle.entries.proofs.key_in.Tie as tie
+use Rattle.layout.proofs.key_in.Statement.{statement}
+use Rattle.layout.proofs.key_in.Tie as tie
 
 cast-result : tie.Need-cast-result
 cast-result c = search needs

@@ -1,0 +1,32 @@
+// An entry of the operation table as one number: made of a kind, a job and a key, and taken apart.
+ghost use mathlib.Core.Path.{_≡_};
+ghost use Prim.Native.Nat.{_≤_};
+ghost use Rattle.service.specs.Entry.{jobIn, keyIn, kindIn, packEntry};
+use service::JOB_FACTOR;
+use service::KIND_FACTOR;
+
+// kind × 2^40 + job × 2^32 + key
+pub fn entry(kind: usize, job: u8, key: u32) -> u64
+    requires { ⌜ kind ≤ 6 ⌝ }
+    ensures { λ r. ⌜ r ≡ packEntry kind job key ⌝ }
+{
+    kind as u64 * KIND_FACTOR + job as u64 * JOB_FACTOR + key as u64
+}
+
+pub fn kind_in(e: u64) -> usize
+    ensures { λ r. ⌜ r ≡ kindIn e ⌝ }
+{
+    (e / KIND_FACTOR) as usize
+}
+
+pub fn job_in(e: u64) -> u8
+    ensures { λ r. ⌜ r ≡ jobIn e ⌝ }
+{
+    (e / JOB_FACTOR % 256) as u8
+}
+
+pub fn key_in(e: u64) -> u32
+    ensures { λ r. ⌜ r ≡ keyIn e ⌝ }
+{
+    (e % JOB_FACTOR) as u32
+}
