@@ -16,7 +16,7 @@ use Rattle.strict.specs.declared.Rule.the-variants.{Together}
 use Rattle.service.specs.Entry.{jobIn, keyIn, kindIn, opIn}
 use Rattle.service.specs.Sound.{asLeft, changing, mayStand, seenIn, settledB}
 use Rattle.entries.specs.Laws.{decoded}
-use Rattle.scans.specs.Tests.{settledAt}
+use Rattle.settling.specs.Tests.{settledAt}
 use Rattle.chains.specs.Chains.{followed, linked, passed}
 use Rattle.chains.proofs.Near.{Reaches, passedBy, same-from}
 

@@ -6,7 +6,7 @@ use lib.Dec.{eqb}
 use Rattle.strict.specs.Tiles.{member}
 use Rattle.service.specs.Entry.{jobIn, keyIn, kindIn}
 use Rattle.service.specs.Sound.{asLeft, changing}
-use Rattle.scans.specs.Filter.{slotOf}
+use Rattle.filter.specs.Filter.{slotOf}
 
 -- the slot of a tile, of 16,384
 abbrev pub nearSlot : ℕ → ℕ

@@ -13,7 +13,8 @@ ghost use Rattle.strict.specs.declared.Rule.the-variants.{Together};
 ghost use Rattle.service.specs.Entry.{keyIn, kindIn, opIn};
 ghost use Rattle.service.specs.Sound.{settledB};
 ghost use Rattle.search.specs.Table.{TileTable};
-ghost use Rattle.scans.specs.Tests.{elsewhere, settledAt};
+ghost use Rattle.filter.specs.Filter.{elsewhere};
+ghost use Rattle.settling.specs.Tests.{settledAt};
 ghost use Rattle.chains.specs.Chains.{followed, linked, nearSlot, passed, startOf};
 use service::Session;
 
@@ -31,7 +32,7 @@ fn start_of(near: u16, count: usize) -> usize
 fn slot_of(key: u32) -> usize
     ensures { λ r. ⌜ (r ≡ nearSlot key) × (r < 16384) ⌝ }
 {
-    scans::slot(key) / 4
+    filter::slot(key) / 4
 }
 
 // Whether an entry deleted the tile `key`.
@@ -128,7 +129,7 @@ fn is_passed(e: u64, f: u64) -> bool
     if layout::job_in(e) != layout::job_in(f) {
         return false;
     }
-    !scans::is_changing(f)
+    !settling::is_changing(f)
 }
 
 // Whether `f` goes on from `e`: it is of the same job, and of the other kind.
@@ -162,7 +163,7 @@ fn is_followed(
         }
         i += 1;
     }
-    scans::as_left(tiles, used, e)
+    settling::as_left(tiles, used, e)
 }
 
 // Whether an entry is settled, where all after it are, and none before `from` has its tile.
@@ -180,7 +181,7 @@ fn entry_chained(
     ensures { λ r. ⌜ r ≡ settledAt Together (take used (now (tiles .entry))) (slice (at + 1) count (now (operations .entry))) (getD (now (operations .entry)) at 0) ⌝ }
 {
     let e = operations[at];
-    if !scans::is_changing(e) {
+    if !settling::is_changing(e) {
         return true;
     }
     is_followed(tiles, used, operations, from, count, e)

@@ -26,7 +26,7 @@ use Rattle.service.specs.World.{World, freeBytes, state}
 use Rattle.service.specs.declared.Told.{Told}
 use Rattle.rectangles.specs.Laws.Apart.{holds-not}
 use Rattle.rectangles.specs.Rectangles.{firstHeld, firstOf, listRefusals, mostInRectangle, needed}
-use Rattle.scans.specs.Tests.{elsewhere}
+use Rattle.filter.specs.Filter.{elsewhere}
 use Rattle.judging.specs.Looks.{listBy, listOf, lookBy, lookOf, roomFor}
 use Rattle.judging.specs.declared.Found.the-variants as found
 use Rattle.judging.specs.declared.Found.{Found}

@@ -10,8 +10,7 @@ ghost use Rattle.service.specs.Sound.{Sound, Tabled};
 ghost use Rattle.service.specs.Told.{bare, decided, told};
 ghost use Rattle.service.specs.World.{state, world};
 ghost use Rattle.rectangles.specs.Rectangles.{listRefusals, mostInRectangle};
-ghost use Rattle.scans.specs.Filter.{Covers};
-ghost use Rattle.scans.specs.Tests.{elsewhere};
+ghost use Rattle.filter.specs.Filter.{Covers, elsewhere};
 ghost use Rattle.judging.specs.Looks.{listOf, lookOf, roomFor};
 use entries::Holder;
 use service::OPERATION_SIZE;
@@ -107,7 +106,7 @@ fn look_all(
     let mut i: usize = 0;
     while i < n {
         let key = keys[i];
-        let met = scans::is_met(filter, key);
+        let met = filter::is_met(filter, key);
         match look_past(session, tiles, operations, job, procedure, key, met) {
             Seen::Held(holder) => {
                 return Found::Held(holder);
@@ -164,7 +163,7 @@ pub fn judge_list(
         ≡ decided (listRefusals (world session (now (tiles .entry)) (now (operations .entry)) (now (journal .entry))) job procedure (take n (now (keys .entry)))) (bare 0) ⌝ }
 {
     let used = session.operations;
-    let filter = scans::meet_all(operations, used);
+    let filter = filter::meet_all(operations, used);
     match look_all(session, tiles, operations, &filter, job, procedure, keys, n) {
         Found::Held(holder) => Reply::Held(holder),
         Found::Needs(need) => lacking(session, tiles, operations, journal, need, n),

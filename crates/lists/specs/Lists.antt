@@ -1,7 +1,7 @@
 -- Tests of all members of a list, and what they say
-use mathlib.Core.Bool.{Bool, _&&_, true}
+use mathlib.Core.Bool.{Bool, _&&_, and-false, and-true, false, true}
 use mathlib.Core.List.{List, [], _++_, _∷_}
-use mathlib.Core.Path.{_∙_, _≡_, ap, refl}
+use mathlib.Core.Path.{_∙_, _≡_, ap, refl, sym}
 use Prim.Native.Nat.{_+_, _-_, _<_, _≤_, suc, ℕ}
 use native.Mathlib.Numerals.{add-one}
 use native.Mathlib.Omega.{arith}
@@ -33,6 +33,25 @@ module _ (l : List ℕ) (n i : ℕ) where
 
   pub slice-next : n ≤ length l → i < n → slice i n l ≡ getD l i 0 ∷ slice (i + 1) n l
   slice-next fits inside = rw add-one (slice-cons i n l 0 inside fits)
+
+  -- a test of all that are left
+  pub all-end : (f : ℕ → Bool) → n ≤ i → allTrue f (slice i n l) ≡ true
+  all-end f h = rw (slice-end h)
+
+  pub flag-end : (f : ℕ → Bool) (b : Bool) → n ≤ i → (b && allTrue f (slice i n l)) ≡ b
+  flag-end f b h = ap (λ x. b && x) (all-end f h) ∙ and-true b
+
+  -- whatever the tests of the element at i say
+  module _ (fits : n ≤ length l) (inside : i < n) where
+    pub all-turn : (f : ℕ → Bool) {b : Bool} → f (getD l i 0) ≡ b → allTrue f (slice i n l) ≡ (b && allTrue f (slice (i + 1) n l))
+    all-turn f e = rw (slice-next fits inside, e)
+
+    -- and a flag that falls with the first test that fails
+    pub flag-falls : (f : ℕ → Bool) (b : Bool) {b' : Bool} → f (getD l i 0) ≡ false → b' ≡ false → (b && allTrue f (slice i n l)) ≡ (b' && allTrue f (slice (i + 1) n l))
+    flag-falls f b e q = ap (λ x. b && x) (all-turn f e) ∙ and-false b ∙ ap (λ x. x && allTrue f (slice (i + 1) n l)) (sym q)
+
+    pub flag-stays : (f : ℕ → Bool) (b : Bool) {b' : Bool} → f (getD l i 0) ≡ true → b' ≡ b → (b && allTrue f (slice i n l)) ≡ (b' && allTrue f (slice (i + 1) n l))
+    flag-stays f b e q = ap (λ x. b && x) (all-turn f e) ∙ ap (λ x. x && allTrue f (slice (i + 1) n l)) (sym q)
 
 -- what is written behind what was written is written with it
 pub sets-sets : (l : List ℕ) (i : ℕ) (xs ys : List ℕ) → sets (sets l i xs) (i + length xs) ys ≡ sets l i (xs ++ ys)

@@ -20,7 +20,7 @@ pub fn is_settled(session: Session, tiles: &[u32], operations: &[u64]) -> bool
 {
     let rule = session.rule;
     match rule {
-        Rule::Alone => scans::is_settled(session, tiles, operations),
+        Rule::Alone => settling::is_settled(session, tiles, operations),
         Rule::Together => chains::is_chained(session, tiles, operations),
     }
 }

@@ -11,7 +11,7 @@ use denote.Ref.{now}
 use Rattle.lists.specs.Truth.{test-fails, test-passes}
 use Rattle.strict.specs.declared.Rule.the-variants.{Together}
 use Rattle.service.specs.Entry.{keyIn}
-use Rattle.scans.specs.Laws.{unchanged-settled}
+use Rattle.settling.specs.Laws.{unchanged-settled}
 use Rattle.chains.specs.Chains.{followed}
 use Rattle.chains.proofs.Near.{same-from}
 use Rattle.chains.proofs.Passes.{followed-passes, followed-settles}

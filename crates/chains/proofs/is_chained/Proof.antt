@@ -12,7 +12,7 @@ use Rattle.lists.specs.Truth.{test-fails, test-passes}
 use Rattle.strict.specs.declared.Rule.the-variants.{Together}
 use Rattle.service.specs.Entry.{keyIn}
 use Rattle.service.specs.Sound.{settledB}
-use Rattle.scans.specs.Laws.{not-settled, settled-back}
+use Rattle.settling.specs.Laws.{not-settled, settled-back}
 use Rattle.chains.specs.Chains.{nearSlot}
 use Rattle.chains.proofs.Near.{Nearest, Reaches, near-recorded, near-start}
 use Rattle.chains.proofs.is_chained.Statement.{statement}

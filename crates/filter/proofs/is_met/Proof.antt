@@ -1,9 +1,9 @@
--- `scans::is_met` meets its contract: where the bit of a tile is not set, the filter covers no entry with it
+-- `filter::is_met` meets its contract: where the bit of a tile is not set, the filter covers no entry with it
 use denote.Ref.{now}
 use borrow.Author.Needs.{needs}
-use Rattle.scans.proofs.Bits.{not-seen}
-use Rattle.scans.proofs.is_met.Statement.{statement}
-use Rattle.scans.proofs.is_met.Tie as tie
+use Rattle.filter.specs.Laws.{not-seen}
+use Rattle.filter.proofs.is_met.Statement.{statement}
+use Rattle.filter.proofs.is_met.Tie as tie
 
 slot-requires : tie.Need-slot-requires
 slot-requires c κs = search needs

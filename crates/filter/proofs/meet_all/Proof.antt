@@ -1,4 +1,4 @@
--- `scans::meet_all` meets its contract: the filter covers the entries behind
+-- `filter::meet_all` meets its contract: the filter covers the entries behind
 use mathlib.Core.Path.{_∙_, _≡_, ap, refl}
 use Prim.Native.Nat.{_+_, _-_, _/_, _<_, _≤_}
 use native.Mathlib.Omega.{arith}
@@ -7,10 +7,10 @@ use lib.Seq.{slice}
 use borrow.Author.Needs.{needs}
 use denote.Ref.{now}
 use Rattle.lists.specs.Lists.{slice-end, slice-next}
-use Rattle.scans.specs.Filter.{Covers, slotOf}
-use Rattle.scans.proofs.Bits.{covers-next}
-use Rattle.scans.proofs.meet_all.Statement.{statement}
-use Rattle.scans.proofs.meet_all.Tie as tie
+use Rattle.filter.specs.Filter.{Covers, slotOf}
+use Rattle.filter.specs.Laws.{covers-next}
+use Rattle.filter.proofs.meet_all.Statement.{statement}
+use Rattle.filter.proofs.meet_all.Tie as tie
 
 abbrev Inv-loop : tie.InvT-loop
 Inv-loop operations count met₀ i₀ met i = (i ≤ count) × (length met ≡ 1024) × Covers met (slice i count operations)

@@ -13,7 +13,7 @@ use Rattle.lists.specs.Truth.{or-left, or-right}
 use Rattle.strict.specs.declared.Rule.{Rule}
 use Rattle.service.specs.Entry.{kindIn}
 use Rattle.service.specs.Sound.{changing, settledB}
-use Rattle.scans.specs.Tests.{settledAt}
+use Rattle.settling.specs.Tests.{settledAt}
 
 module _ (r : Rule) (t l : List ℕ) (n i : ℕ) (fits : n ≤ length l) where
   pub settled-back : i < n → {a : Bool} → settledAt r t (slice (i + 1) n l) (getD l i 0) ≡ a → settledB r t (slice i n l) ≡ (a && settledB r t (slice (i + 1) n l))
