@@ -1,3 +1,4 @@
 -- The proofs behind the passes
 pub mod Carrying
 pub mod Calling
+pub mod Parting

@@ -1,7 +1,8 @@
-// A rectangle in one call: judged as a whole before a byte is written, and then carried out tile after tile.
+// A rectangle in one call: judged as a whole before a byte is written, and then carried out, with one pass over the tiles.
 ghost use mathlib.Core.Path.{_≡_};
 ghost use Prim.Native.Nat.{_≤_};
 ghost use lib.ListN.{length, take};
+ghost use Rattle.strict.specs.Tiles.{Ascending};
 ghost use Rattle.service.specs.Claims.{Serves};
 ghost use Rattle.service.specs.World.{reported, world};
 ghost use Rattle.rectangles.specs.Fitting.{Ahead};
@@ -15,7 +16,30 @@ use service::Session;
 use shapes::Shape;
 use strict::Procedure;
 
-// Carries out the operations on n keys that all may happen, one after another.
+// Carries out the operations on a run of keys that all may happen: what is written of each, and then the tiles in one pass.
+fn place_run(
+    session: Session,
+    tiles: &mut [u32],
+    operations: &mut [u64],
+    journal: &mut [u8],
+    job: u8,
+    procedure: Procedure,
+    keys: &[u32],
+) -> Session
+    requires { ⌜ Ahead job procedure (world session (now tiles) (now operations) (now journal)) (now keys)
+        (world session (now tiles) (now operations) (now journal)) (now keys)
+        × Ascending (now keys) ⌝ }
+    ensures { λ r. ⌜ world r (now (tiles .exit)) (now (operations .exit)) (now (journal .exit))
+        ≡ carriedAll (world session (now (tiles .entry)) (now (operations .entry)) (now (journal .entry))) job procedure (now (keys .entry)) ⌝ }
+{
+    let count = session.tiles;
+    let reached = noting::note_all(session, tiles, operations, journal, job, procedure, keys);
+    let left = reached.tiles;
+    runs::affect_run(tiles, count, procedure, keys, left);
+    reached
+}
+
+// Carries out the operations on n keys that all may happen, run after run: a rectangle has one, and two where it crosses 180 degrees.
 fn place_all(
     session: Session,
     tiles: &mut [u32],
@@ -35,11 +59,17 @@ fn place_all(
     let mut reached = session;
     let mut i: usize = 0;
     while i < n {
-        let count = reached.tiles;
-        let spot = tiles::find(tiles, count, keys[i]);
-        let done = jobs::carry_out(reached, tiles, operations, journal, job, procedure, spot);
-        reached = done.session;
-        i += 1;
+        let end = runs::run_end(keys, i, n);
+        reached = place_run(
+            reached,
+            tiles,
+            operations,
+            journal,
+            job,
+            procedure,
+            &keys[i..end],
+        );
+        i = end;
     }
     reached
 }

@@ -1,21 +1,15 @@
 -- `placing::place_all` meets its contract: what is ahead at each turn is what was ahead at the first
-use mathlib.Core.Path.{_∙_, _≡_, ap, subst, sym}
-use Prim.Native.Nat.{_-_, _≤_, ℕ}
+use Prim.Native.Nat.{_-_, _≤_}
 use native.Mathlib.Omega.{arith}
-use lib.ListN.{getD, length, take}
+use lib.ListN.{length, take}
 use lib.Seq.{slice}
 use denote.Ref.{now}
-use Rattle.admission.specs.Laws.{tile-table}
 use Rattle.rectangles.specs.Fitting.{Ahead}
-use Rattle.rectangles.specs.Laws.Fitting.{pass-may, pass-more, pass-over}
-use Rattle.service.specs.Calls.{carried}
-use Rattle.service.specs.Claims.{Passes}
-use Rattle.service.specs.World.{Reported, World, usedTiles, world}
-use Rattle.strict.specs.Histories.{operation}
-use Rattle.tiles.specs.Laws.{spot-named}
-use Rattle.tiles.specs.declared.Spot.{Spot}
+use Rattle.rectangles.specs.Laws.Fitting.{pass-over}
+use Rattle.service.specs.World.{world}
 use Rattle.placing.proofs.place_all.Statement.{statement}
 use Rattle.placing.proofs.place_all.Tie as tie
+use Rattle.placing.specs.Laws.Parting.{run-may, run-more}
 
 abbrev Inv-loop : tie.InvT-loop
 Inv-loop tiles₀ operations₀ journal₀ job procedure keys n reached₀ i₀ tiles operations journal reached i =
@@ -28,56 +22,37 @@ abbrev μ-loop : tie.MeasureT-loop
 loop-holds : tie.Need-loop-holds Inv-loop μ-loop
 loop-holds c = let s = c .before .before .before .before in (omega arith, s .pre .0, s .pre .1)
 
--- the tables at a turn, and the key that is next
-abbrev reached : tie.In-loop Inv-loop μ-loop → World
-reached c = let l = c .before .loop in world (l .reached) (l .tiles) (l .operations) (l .journal)
+run-end-requires : tie.Need-run-end-requires Inv-loop μ-loop
+run-end-requires c κs = (omega arith, c .before .loop .inv .1)
 
-abbrev next : tie.In-loop Inv-loop μ-loop → ℕ
-next c = getD (now (c .before .before .before .before .before .before .args .keys)) (c .before .loop .i) 0
+mul-place-run : tie.Need-mul-place-run Inv-loop μ-loop
+mul-place-run c = omega arith
 
-may : (c : tie.In-loop Inv-loop μ-loop)
-    → let a = c .before .before .before .before .before .before .args in
-    Passes (reached c) (operation (a .job) (a .procedure) (next c))
-may c =
-    let l = c .before .loop in
-    let a = c .before .before .before .before .before .before .args in
-    pass-may (now (a .keys)) (a .n) (l .i) (l .inv .2) (l .inv .1) (omega arith)
+sub-place-run : tie.Need-sub-place-run Inv-loop μ-loop
+sub-place-run c = omega arith
 
--- the spot is that of the key
-key-found : (f : tie.After-find Inv-loop μ-loop) → f .find .result .key ≡ next (f .before .before .before)
-key-found f = ap (λ (x : Spot). x .key) (f .find .ensures)
+part-place-run-start : tie.Need-part-place-run-start Inv-loop μ-loop
+part-place-run-start c = omega arith
 
-mul-find : tie.Need-mul-find Inv-loop μ-loop
-mul-find c = omega arith
+part-place-run-end : tie.Need-part-place-run-end Inv-loop μ-loop
+part-place-run-end c = omega arith
 
-shared-slice-read-find : tie.Need-shared-slice-read-find Inv-loop μ-loop
-shared-slice-read-find c = omega arith
-
-find-requires : tie.Need-find-requires Inv-loop μ-loop
-find-requires c κs = let g = c .before .before in tile-table (reached g) (may g .sound-before .tables)
-
-carry-out-requires : tie.Need-carry-out-requires Inv-loop μ-loop
-carry-out-requires c κs =
-    let f = c .before .before .before in
-    let g = f .before .before .before in
-    let a = g .before .before .before .before .before .before .args in
-    (subst (λ k. Passes (reached g) (operation (a .job) (a .procedure) k)) (sym (key-found f)) (may g), spot-named (usedTiles (reached g)) _ _ (f .find .ensures))
-
-add-i : tie.Need-add-i Inv-loop μ-loop
-add-i c = omega arith
+place-run-requires : tie.Need-place-run-requires Inv-loop μ-loop
+place-run-requires c κs =
+    let l = c .before .before .before .before .before .before .loop in
+    let a = c .before .before .before .before .before .before .before .before .before .before .before .args in
+    let r = c .before .before .before .before .run-end .ensures in
+    (run-may (now (a .keys)) (a .n) (l .i) _ (l .inv .2) (omega arith) (r .within), r .ascends)
 
 loop-less : tie.Need-loop-less Inv-loop μ-loop
 loop-less c = omega arith
 
 loop-again : tie.Need-loop-again Inv-loop μ-loop
 loop-again c =
-    let d = c .before .before .before .before .before .before .before in
-    let f = d .before .before .before .before in
-    let g = f .before .before .before in
-    let l = g .before .loop in
-    let a = g .before .before .before .before .before .before .args in
-    let after = ap (λ (x : Reported). x .after) (d .carry-out .ensures) ∙ ap (λ k. carried (reached g) (operation (a .job) (a .procedure) k)) (key-found f) in
-    (omega arith, l .inv .1, pass-more (now (a .keys)) (a .n) (l .i) (l .inv .2) (l .inv .1) (omega arith) _ after)
+    let l = c .before .before .before .before .before .before .before .before .before .before .before .before .before .loop in
+    let a = c .before .before .before .before .before .before .before .before .before .before .before .before .before .before .before .before .before .before .args in
+    let r = c .before .before .before .before .before .before .before .before .before .before .before .run-end .ensures in
+    (r .within, l .inv .1, run-more (now (a .keys)) (a .n) (l .i) _ (l .inv .2) (omega arith) (r .within) _ (c .before .before .before .before .before .before .place-run .ensures))
 
 same-length : tie.Need-same-length Inv-loop μ-loop
 same-length c = c .before .loop .inv .2 .same-places
@@ -101,11 +76,12 @@ place-all-spec =
     Inv-loop
     μ-loop
     loop-holds
-    mul-find
-    shared-slice-read-find
-    find-requires
-    carry-out-requires
-    add-i
+    run-end-requires
+    mul-place-run
+    sub-place-run
+    part-place-run-start
+    part-place-run-end
+    place-run-requires
     loop-less
     loop-again
     same-length

@@ -1,0 +1,5 @@
+pub mod Ascents
+pub mod Greatest
+pub mod Merging
+pub mod Keeping
+pub mod Spots
