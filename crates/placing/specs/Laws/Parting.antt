@@ -19,7 +19,7 @@ use Rattle.rectangles.specs.Claims.{Apart}
 use Rattle.rectangles.specs.Fitting.{Ahead, Fits}
 use Rattle.rectangles.specs.Laws.Fitting.{ahead-more, first-none}
 use Rattle.rectangles.specs.Rectangles.{carriedAll, firstHeld, firstOf, needed}
-use Rattle.noting.specs.Noting.{Noted, tilesAfter}
+use Rattle.noting.specs.Noting.{Noted, tilesLeft}
 
 -- the first part
 all-first : (P : ℕ → Type 0) (xs ys : List ℕ) → All P (xs ++ ys) → All P xs
@@ -100,5 +100,5 @@ module _ {job : ℕ} {p : Procedure} {w₀ w : World} {ks₀ : List ℕ} (l : Li
 
 -- what was noted of a run, with its tiles moved
 pub run-done : {w : World} {job : ℕ} {p : Procedure} {ks : List ℕ} {s : Session} {o j : List ℕ} (t : List ℕ) → Noted w job p ks s o j
-    → t ≡ padded (length (w .tiles)) (tilesAfter w p ks) → world s t o j ≡ carriedAll w job p ks
+    → t ≡ padded (length (w .tiles)) (tilesLeft w p ks) → world s t o j ≡ carriedAll w job p ks
 run-done {s = s} {o = o} {j = j} t n is = ap (λ x. world s x o j) is ∙ n .done
