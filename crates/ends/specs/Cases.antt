@@ -3,13 +3,14 @@ use mathlib.Core.Bool.{false}
 use mathlib.Core.List.{List, [], _++_, _∷_}
 use mathlib.Core.Path.{_≡_, refl}
 use Prim.Native.Nat.{ℕ}
+use lib.IntN.{pos}
 use lib.ListN.{replicate}
 use Rattle.strict.specs.Commutativity.{entryAt}
 use Rattle.strict.specs.declared.Procedure.the-variants.{Ins, Mem}
 use Rattle.strict.specs.declared.Rule.{Rule}
 use Rattle.strict.specs.declared.Rule.the-variants.{Alone, Together}
 use Rattle.service.specs.Calls.{concluded, startCall}
-use Rattle.service.specs.Cases.{A, Exchange, _↝_, a, b, from, ok, worldAfter}
+use Rattle.service.specs.Cases.{A, Exchange, _↝_, a, b, from, okA, okB, worldAfter}
 use Rattle.service.specs.History.{opening, operating}
 use Rattle.service.specs.Journal.{encode, ruleBytes}
 use Rattle.service.specs.Sound.{soundB, tabledB}
@@ -24,9 +25,9 @@ asked =
     opening 1 ↝ bare 0
     ∷ opening 2 ↝ bare 0
     ∷ opening 3 ↝ bare 0
-    ∷ operating 1 Ins a ↝ ok
-    ∷ operating 2 Mem b ↝ done false
-    ∷ operating 3 Ins b ↝ ok
+    ∷ operating 1 Ins a ↝ okA
+    ∷ operating 2 Mem b ↝ done false (pos 1)
+    ∷ operating 3 Ins b ↝ okB
     ∷ []
 
 abbrev running : Rule → World

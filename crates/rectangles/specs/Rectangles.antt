@@ -16,8 +16,8 @@ use Rattle.strict.specs.declared.Rule.{Rule}
 use Rattle.service.specs.Admission.{openMarks}
 use Rattle.service.specs.Calls.{carried, endRefusals}
 use Rattle.service.specs.Limits.{operationSize, shortSize}
-use Rattle.service.specs.Tile.{addressCall}
-use Rattle.service.specs.Told.{Refusal, bare, decided, refuse, refuseHeld}
+use Rattle.service.specs.Tile.{addressCall, turnsOf}
+use Rattle.service.specs.Told.{Refusal, decided, refuse, refuseHeld}
 use Rattle.service.specs.World.{Reported, World, freeBytes, state}
 use Rattle.service.specs.declared.Address.{Address}
 use Rattle.service.specs.declared.Told.{Told}
@@ -119,9 +119,13 @@ abbrev pub carriedAll : World → ℕ → Procedure → List ℕ → World
 carriedAll w job p [] = w
 carriedAll w job p (k ∷ ks) = carriedAll (carried w (operation job p k)) job p ks
 
+-- 0, with the turns of the first column and of the last
+abbrev pub covered : Rectangle → Told
+covered r = record { number = 0; answer = 0; holder = 0; turns = turnsOf (r .west) (2 ^ (r .zoom)); last = turnsOf (r .east) (2 ^ (r .zoom)) }
+
 -- whole or refused
 unfoldable pub rectangleCall : World → ℕ → Change → Rectangle → Reported
 rectangleCall w job change r =
     let p : Procedure = procedureFor change in
-    let t : Told = decided (rectangleRefusals w job p r) (bare 0) in
+    let t : Told = decided (rectangleRefusals w job p r) (covered r) in
     record { told = t; after = cond (eqb (t .number) 0) (carriedAll w job p (keys (listed r))) w }

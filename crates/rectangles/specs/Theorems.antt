@@ -4,7 +4,7 @@ use mathlib.Core.List.{List, _++_}
 use mathlib.Core.Logic.{_↔_, _≢_}
 use mathlib.Core.Option.{none}
 use mathlib.Core.Path.{_∙_, _≡_, ap, refl, subst, sym}
-use Prim.Native.Nat.{_*_, _+_, _<_, _≤_, ℕ}
+use Prim.Native.Nat.{_*_, _+_, _<_, _^_, _≤_, ℕ}
 use lib.IntN.{_+ℤ_, pos, ℤ}
 use lib.ListN.{length, take}
 use lib.Signed.{_≤ℤ_}
@@ -25,6 +25,9 @@ use Rattle.service.specs.Extents.{extentIn, upto}
 use Rattle.service.specs.History.{Call, From, history}
 use Rattle.service.specs.Limits.{jobCount, lastJob, operationSize, shortSize}
 use Rattle.service.specs.Sound.{soundB}
+use Rattle.service.specs.Tile.{turnsOf}
+use Rattle.service.specs.Told.{toldHeld}
+use Rattle.service.specs.Turns.{TellsTurns}
 use Rattle.service.specs.World.{World, freeBytes, state, usedJournal}
 use Rattle.rectangles.specs.Claims.{AllDone, Apart, Before, FirstHeld, FromMoves, Inside, Misshapen, Move, Shaped, bytesRunOut, callsOf, followed, leftBy, placesRunOut, recordsOf, refusingRectangle, slotsRunOut, written}
 use Rattle.rectangles.specs.Laws.Demanding.{rectangle-accepted, rectangle-held, rectangle-room-just}
@@ -32,7 +35,7 @@ use Rattle.rectangles.specs.Laws.Judging.{told-first, told-five, told-he
 use Rattle.rectangles.specs.Laws.Keeping.{all-keep, all-write}
 use Rattle.rectangles.specs.Laws.Listing.{length-sequence, span-within, within-span}
 use Rattle.rectangles.specs.Laws.Tiles.{all-apart, in-order, listed-exactly}
-use Rattle.rectangles.specs.Laws.Whole.{done-shaped, moves-written, rectangle-serves, told-among, whole-done, whole-leaves}
+use Rattle.rectangles.specs.Laws.Whole.{done-shaped, moves-written, rectangle-serves, tells-turns, told-among, whole-done, whole-leaves}
 use Rattle.rectangles.specs.Rectangles.{carriedAll, height, keys, listed, outOfRange, procedureFor, rectangleCall, span, tileAt, width}
 use Rattle.rectangles.specs.declared.Change.{Change}
 use Rattle.rectangles.specs.declared.Rectangle.{Rectangle}
@@ -66,6 +69,10 @@ module _ (w : World) (job : ℕ) (change : Change) (r : Rectangle) where
     told-among w job change r n,
   )
 
+  -- where it is done it tells the turns of west and of east, and no refusal tells any
+  pub rectangle-turns : TellsTurns (rectangleCall w job change r .told) (turnsOf (r .west) (2 ^ (r .zoom))) (turnsOf (r .east) (2 ^ (r .zoom)))
+  rectangle-turns = tells-turns w job change r
+
   -- its numbers: 1, then 2, then 3
   pub rectangle-first-three : let told = rectangleCall w job change r .told .number in
       ((told ≡ 1) ↔ (soundB w ≡ false))
@@ -82,7 +89,7 @@ module _ (w : World) (job : ℕ) (change : Change) (r : Rectangle) where
 
   -- then 6, for the first held tile in the order of the list, with the job of the first entry that holds it
   pub rectangle-held-first : (holder : ℕ)
-      → (rectangleCall w job change r .told ≡ record { number = 6; answer = 0; holder = holder })
+      → (rectangleCall w job change r .told ≡ toldHeld holder)
       ↔ (Serves w job × Shaped r × FirstHeld (w .session .rule) (state w .book) job (procedureFor change) (keys (listed r)) holder)
   rectangle-held-first holder = told-held w job change r holder
 

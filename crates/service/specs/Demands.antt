@@ -21,7 +21,7 @@ use Rattle.service.specs.Calls.{operationCall}
 use Rattle.service.specs.Claims.{Reached, Reads, RebuildsAlone, Stops, operationBytes, records, tilesAfter}
 use Rattle.service.specs.Entry.{opIn}
 use Rattle.service.specs.Extents.{extentIn, upto}
-use Rattle.service.specs.History.{Call, From, call, event, history}
+use Rattle.service.specs.History.{Call, From, call, event, history, turnsBy}
 use Rattle.service.specs.Journal.{readAt, ruleBytes}
 use Rattle.service.specs.Laws.Accepting.{told-done}
 use Rattle.service.specs.Laws.Exact.{accepted-just, held-just, room-just}
@@ -69,11 +69,11 @@ module _ {r : Rule} {tiles : List ℕ} {count : ℕ} {operations journal : List 
   same-lengths = (there .same-places, there .same-slots)
 
   -- accepted calls give the report's answers and effects
-  pub answers : (c : Call) → call w c .told .number ≡ 0 → call w c .told ≡ done (answerOn (tilesAfter start-tiles (history cs)) (event c))
+  pub answers : (c : Call) → call w c .told .number ≡ 0 → call w c .told ≡ done (answerOn (tilesAfter start-tiles (history cs)) (event c)) (turnsBy c)
   answers c ok =
       told-done w c ok
-      ∙ ap (λ x. done (answerTo x (event c))) (there .has-state)
-      ∙ ap done (answer-is _ _ r start-tiles (there .start-stands) (history cs) (there .taken) (event c))
+      ∙ ap (λ x. done (answerTo x (event c)) (turnsBy c)) (there .has-state)
+      ∙ ap (λ b. done b (turnsBy c)) (answer-is _ _ r start-tiles (there .start-stands) (history cs) (there .taken) (event c))
 
   pub effects : (usedTiles w ≡ tilesAfter start-tiles (history cs)) × (map opIn (usedOperations w) ≡ unfinished (kept start-tiles (history cs)))
   effects = (

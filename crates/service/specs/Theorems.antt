@@ -24,7 +24,7 @@ use Rattle.service.specs.Calls.{abortCall, carried, commitCall, conclude
 use Rattle.service.specs.Claims.{Because, ChangedByOther, Halts, Keeps, Missing, Named, NoRoomByJob, Placeless, Serves, Tells, WantsOpen, holderIn, openBytes, operationBytes, refusing}
 use Rattle.service.specs.Entry.{opIn}
 use Rattle.service.specs.Extents.{recordSize}
-use Rattle.service.specs.History.{Call, call, event, jobOf, refusalsOf}
+use Rattle.service.specs.History.{Call, call, event, jobOf, refusalsOf, turnsBy}
 use Rattle.service.specs.Journal.{encode, front, readAt, readCall, recordOf, ruleBytes, ruleIn}
 use Rattle.service.specs.Laws.Accepting.{after-stands, carried-bytes, carried-places, carried-slots, carried-sound, first-told, left-carried, lowest-told, none-told, passed, passes, told-listed}
 use Rattle.service.specs.Laws.Deciding.{accepted-told, held-by-other, held-names, room-by-job, told-eight, told-nine, told-seven}
@@ -44,7 +44,7 @@ use Rattle.service.specs.Limits.{jobCount, lastJob, mostBytes, mostOpera
 use Rattle.service.specs.Replay.{Rebuilt, replayCall, stopped}
 use Rattle.service.specs.Sound.{AllSettled, Sound, Worded, soundB}
 use Rattle.service.specs.Tile.{keyOf}
-use Rattle.service.specs.Told.{Refusal, bare, done, refused}
+use Rattle.service.specs.Told.{Refusal, bare, done, refused, toldHeld}
 use Rattle.service.specs.World.{Reported, World, freeBytes, state, usedJournal, usedOperations, usedTiles, world}
 use Rattle.service.specs.declared.Address.{Address}
 use Rattle.service.specs.declared.Read.the-variants.{Cut, End, Ruled, Whole}
@@ -66,7 +66,7 @@ pub lowest-given : (w : World) (c : Call)
 lowest-given w c = lowest-told w c
 
 -- and 0 where none applies
-pub none-given : (w : World) (c : Call) → refused (refusalsOf w c) ≡ false → call w c .told ≡ done (answerTo (state w) (event c))
+pub none-given : (w : World) (c : Call) → refused (refusalsOf w c) ≡ false → call w c .told ≡ done (answerTo (state w) (event c)) (turnsBy c)
 none-given w c e = none-told w c e
 
 -- the order in which they are judged: 1 first, then 2, then 3 (of an open 4), then 5
@@ -96,7 +96,7 @@ open-exact w job = open-told w job
 -- an operation of an open job, on an address with the key k: then 6, and then 7, 8 and 9
 module _ (w : World) (job : ℕ) (p : Procedure) (a : Address) (k : ℕ) (v : Serves w job) (has-key : keyOf a ≡ some k) where
   -- held is given just where an entry holds it by the session's rule, and names the job of the first
-  pub held-names-first : (holder : ℕ) → (operationCall w job p a .told ≡ record { number = 6; answer = 0; holder = holder })
+  pub held-names-first : (holder : ℕ) → (operationCall w job p a .told ≡ toldHeld holder)
       ↔ FirstHolder (w .session .rule) (begun job p k (usedTiles w)) (map opIn (usedOperations w)) holder
   held-names-first holder = held-names w job p a k v has-key holder
 

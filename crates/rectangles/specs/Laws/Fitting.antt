@@ -28,7 +28,7 @@ use Rattle.service.specs.Laws.Soundness.{is-sound, sound-is}
 use Rattle.service.specs.Laws.Storing.{tabled-stands}
 use Rattle.service.specs.Laws.Telling.{Passed, not-held, unrefused}
 use Rattle.service.specs.Limits.{jobCount, lastJob, operationSize}
-use Rattle.service.specs.Tile.{isKey, keyOf, placedAt}
+use Rattle.service.specs.Tile.{isKey, keyOf, placedAt, turnsIn}
 use Rattle.service.specs.Told.{refuseHeld}
 use Rattle.service.specs.World.{World, freeBytes, state}
 use Rattle.service.specs.declared.Address.{Address}
@@ -171,8 +171,8 @@ unfolding keyOf
 fits-passes w job p k ks valid f =
     let v = key-valid k valid in
     let a : Address = record { zoom = v .0; column = v .1; row = v .2 } in
-    let same : keyFor a ≡ k = ap (λ o. placedAt o .key) (v .3) in
-    let placed : unplaced a ≡ false = ap (λ o. eqb (placedAt o .number) 5) (v .3) in
+    let same : keyFor a ≡ k = ap (λ o. placedAt o (turnsIn a) .key) (v .3) in
+    let placed : unplaced a ≡ false = ap (λ o. eqb (placedAt o (turnsIn a) .number) 5) (v .3) in
     let c = operating job p a in
     subst (λ x. Passes w (operation job p x)) same
     (passes w c (passed w c (first-done w job p a ks placed (subst (λ x. Fits w job p (x ∷ ks)) (sym same) f))))

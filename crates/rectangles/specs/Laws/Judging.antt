@@ -27,7 +27,7 @@ use Rattle.service.specs.Laws.Storing.{tabled-stands}
 use Rattle.service.specs.Laws.Telling.{Others, Passed, found-is, held-six, holder-told, told-exactly, told-whole}
 use Rattle.service.specs.Limits.{lastJob}
 use Rattle.service.specs.Sound.{soundB}
-use Rattle.service.specs.Told.{Refusal, bare, decided, refuse, refuseHeld}
+use Rattle.service.specs.Told.{Refusal, decided, refuse, refuseHeld, toldHeld}
 use Rattle.service.specs.World.{World, freeBytes, state}
 use Rattle.service.specs.declared.Told.{Told}
 use Rattle.rectangles.specs.Claims.{FirstHeld, Misshapen, Shaped, bytesRunOut, placesRunOut, slotsRunOut}
@@ -35,7 +35,7 @@ use Rattle.rectangles.specs.Laws.Fitting.{first-none}
 use Rattle.rectangles.specs.Laws.Running.{bytes-run-out, places-run-out, slots-run-out}
 use Rattle.rectangles.specs.Laws.Tiles.{all-apart}
 use Rattle.rectangles.specs.Laws.Whole.{rectangle-told}
-use Rattle.rectangles.specs.Rectangles.{area, fewBytes, fewPlaces, fewSlots, firstHeld, firstOf, height, keys, listRefusals, listed, misshapen, outOfRange, procedureFor, rectangleCall, roomRefusals, span, width}
+use Rattle.rectangles.specs.Rectangles.{area, covered, fewBytes, fewPlaces, fewSlots, firstHeld, firstOf, height, keys, listRefusals, listed, misshapen, outOfRange, procedureFor, rectangleCall, roomRefusals, span, width}
 use Rattle.rectangles.specs.declared.Change.{Change}
 use Rattle.rectangles.specs.declared.Rectangle.{Rectangle}
 
@@ -116,12 +116,12 @@ passed-by (x ∷ xs) ys t h = rw (h .0) (passed-by xs ys t (h .1))
 unfoldable RoomTold : Bool → Bool → Bool → ℕ → Type 0
 RoomTold a b c n = ((n ≡ 7) ↔ (a ≡ true)) × ((n ≡ 8) ↔ ((a ≡ false) × (b ≡ true))) × ((n ≡ 9) ↔ ((a ≡ false) × (b ≡ false) × (c ≡ true)))
 
-room-first : (a b c : Bool) → RoomTold a b c (decided (roomRefusals a b c) (bare 0) .number)
+room-first : (r : Rectangle) (a b c : Bool) → RoomTold a b c (decided (roomRefusals a b c) (covered r) .number)
 unfolding RoomTold
-room-first a b c =
-    let seven = told-exactly 7 [] (refuse 7 a) (refuse 8 b ∷ refuse 9 c ∷ []) (bare 0) tt refl (omega arith, (omega arith, tt)) (omega arith) in
-    let eight = told-exactly 8 (refuse 7 a ∷ []) (refuse 8 b) (refuse 9 c ∷ []) (bare 0) (omega arith, tt) refl (omega arith, tt) (omega arith) in
-    let nine = told-exactly 9 (refuse 7 a ∷ refuse 8 b ∷ []) (refuse 9 c) [] (bare 0) (omega arith, (omega arith, tt)) refl tt (omega arith) in (
+room-first r a b c =
+    let seven = told-exactly 7 [] (refuse 7 a) (refuse 8 b ∷ refuse 9 c ∷ []) (covered r) tt refl (omega arith, (omega arith, tt)) (omega arith) in
+    let eight = told-exactly 8 (refuse 7 a ∷ []) (refuse 8 b) (refuse 9 c ∷ []) (covered r) (omega arith, tt) refl (omega arith, tt) (omega arith) in
+    let nine = told-exactly 9 (refuse 7 a ∷ refuse 8 b ∷ []) (refuse 9 c) [] (covered r) (omega arith, (omega arith, tt)) refl tt (omega arith) in (
       (λ e. seven .0 e .1, λ e. seven .1 (tt, e)),
       (λ e. let x = eight .0 e in (x .0 .0, x .1), λ x. eight .1 ((x .0, tt), x .1)),
       (λ e. let x = nine .0 e in (x .0 .0, x .0 .1 .0, x .1), λ x. nine .1 ((x .0, (x .1, tt)), x .2)),
@@ -168,11 +168,11 @@ module _ (w : World) (job : ℕ) (change : Change) (r : Rectangle) where
       let b = refuse 2 (ltb lastJob job) in
       let c = refuse 3 (not (isOpen (state w) job)) in
       let later = refuse 5 (outOfRange r) ∷ refuse 13 (misshapen r) ∷ listRefusals w job p ks in
-      let one = told-exactly 1 [] a (b ∷ c ∷ later) (bare 0) tt refl
+      let one = told-exactly 1 [] a (b ∷ c ∷ later) (covered r) tt refl
       (omega arith, (omega arith, (omega arith, (omega arith, last-others 1 (omega arith) (omega arith) (omega arith) (omega arith))))) (omega arith) in
-      let two = told-exactly 2 (a ∷ []) b (c ∷ later) (bare 0) (omega arith, tt) refl
+      let two = told-exactly 2 (a ∷ []) b (c ∷ later) (covered r) (omega arith, tt) refl
       (omega arith, (omega arith, (omega arith, last-others 2 (omega arith) (omega arith) (omega arith) (omega arith)))) (omega arith) in
-      let three = told-exactly 3 (a ∷ b ∷ []) c later (bare 0) (omega arith, (omega arith, tt)) refl
+      let three = told-exactly 3 (a ∷ b ∷ []) c later (covered r) (omega arith, (omega arith, tt)) refl
       (omega arith, (omega arith, last-others 3 (omega arith) (omega arith) (omega arith) (omega arith))) (omega arith) in
       let t = ap (λ (t : Told). t .number) (rectangle-told w job change r) in (
         (λ e. not-true _ (one .0 (sym t ∙ e) .1), λ e. t ∙ one .1 (tt, ap not e)),
@@ -188,7 +188,7 @@ module _ (w : World) (job : ℕ) (change : Change) (r : Rectangle) where
 
   pub told-five : (told .number ≡ 5) ↔ (Serves w job × (outOfRange r ≡ true))
   told-five =
-      let x = told-exactly 5 three (refuse 5 (outOfRange r)) (refuse 13 (misshapen r) ∷ listRefusals w job p ks) (bare 0)
+      let x = told-exactly 5 three (refuse 5 (outOfRange r)) (refuse 13 (misshapen r) ∷ listRefusals w job p ks) (covered r)
       (omega arith, (omega arith, (omega arith, tt))) refl (omega arith, last-others 5 (omega arith) (omega arith) (omega arith) (omega arith)) (omega arith) in
       let y = serves-then [] in
       let t = ap (λ (t : Told). t .number) (rectangle-told w job change r) in (
@@ -198,7 +198,7 @@ module _ (w : World) (job : ℕ) (change : Change) (r : Rectangle) where
 
   pub told-thirteen : (told .number ≡ 13) ↔ (Serves w job × (outOfRange r ≡ false) × Misshapen r)
   told-thirteen =
-      let x = told-exactly 13 four (refuse 13 (misshapen r)) (listRefusals w job p ks) (bare 0)
+      let x = told-exactly 13 four (refuse 13 (misshapen r)) (listRefusals w job p ks) (covered r)
       (omega arith, (omega arith, (omega arith, (omega arith, tt)))) refl (last-others 13 (omega arith) (omega arith) (omega arith) (omega arith)) (omega arith) in
       let y = serves-then (refuse 5 (outOfRange r) ∷ []) in
       let m = misshapen-is r in
@@ -217,7 +217,7 @@ module _ (w : World) (job : ℕ) (change : Change) (r : Rectangle) where
   pub told-six : (told .number ≡ 6) ↔ (Serves w job × Shaped r × (firstHeld rule (state w .book) job p ks ≢ none))
   told-six =
       let o = firstHeld rule (state w .book) job p ks in
-      let x = told-exactly 6 five (refuseHeld o) (roomRefusals (fewPlaces w job p ks) (fewSlots w ks) (fewBytes w ks)) (bare 0)
+      let x = told-exactly 6 five (refuseHeld o) (roomRefusals (fewPlaces w job p ks) (fewSlots w ks) (fewBytes w ks)) (covered r)
       (omega arith, (omega arith, (omega arith, (omega arith, (omega arith, tt))))) (held-six o) (omega arith, (omega arith, (omega arith, tt))) (omega arith) in
       let t = ap (λ (t : Told). t .number) (rectangle-told w job change r) in
       let f = found-is o in (
@@ -225,19 +225,19 @@ module _ (w : World) (job : ℕ) (change : Change) (r : Rectangle) where
         λ c. t ∙ x .1 (shaped-is .1 (c .0, c .1), f .1 (c .2)),
       )
 
-  pub told-held : (i : ℕ) → (told ≡ record { number = 6; answer = 0; holder = i }) ↔ (Serves w job × Shaped r × FirstHeld rule (state w .book) job p ks i)
+  pub told-held : (i : ℕ) → (told ≡ toldHeld i) ↔ (Serves w job × Shaped r × FirstHeld rule (state w .book) job p ks i)
   told-held i =
       let m = state w .book in
       let o = firstHeld rule m job p ks in
       let rest = roomRefusals (fewPlaces w job p ks) (fewSlots w ks) (fewBytes w ks) in
-      let x = told-exactly 6 five (refuseHeld o) rest (bare 0)
+      let x = told-exactly 6 five (refuseHeld o) rest (covered r)
       (omega arith, (omega arith, (omega arith, (omega arith, (omega arith, tt))))) (held-six o) (omega arith, (omega arith, (omega arith, tt))) (omega arith) in
       let t = rectangle-told w job change r in (
         λ e. let c = x .0 (ap (λ (t : Told). t .number) (sym t ∙ e)) in
             let s = shaped-is .0 (c .0) in
-            (s .0, s .1, held-first rule m job p ks i (holder-told o i (c .1) (sym (told-whole five (refuseHeld o) rest (bare 0) (c .0) (c .1)) ∙ sym t ∙ e))),
+            (s .0, s .1, held-first rule m job p ks i (holder-told o i (c .1) (sym (told-whole five (refuseHeld o) rest (covered r) (c .0) (c .1)) ∙ sym t ∙ e))),
         λ c. let e = first-held rule m job p ks i (c .2) in
-            t ∙ told-whole five (refuseHeld o) rest (bare 0) (shaped-is .1 (c .0, c .1)) (ap (λ q. refuseHeld q .applies) e)
+            t ∙ told-whole five (refuseHeld o) rest (covered r) (shaped-is .1 (c .0, c .1)) (ap (λ q. refuseHeld q .applies) e)
             ∙ ap (λ q. refuseHeld q .says) e,
       )
 
@@ -252,7 +252,7 @@ module _ (w : World) (job : ℕ) (change : Change) (r : Rectangle) where
     abbrev bytes : Bool
     bytes = bytesRunOut (freeBytes w) (openMarks (w .session .marks)) ks
 
-    room-told : told .number ≡ decided (roomRefusals places slots bytes) (bare 0) .number
+    room-told : told .number ≡ decided (roomRefusals places slots bytes) (covered r) .number
     room-told =
         let m = state w .book in
         let o = sound-is w (ready .is-sound-there) in
@@ -261,12 +261,12 @@ module _ (w : World) (job : ℕ) (change : Change) (r : Rectangle) where
         let b = slots-run-out rule job p (length (w .operations)) ks m (s .fits) in
         let c = bytes-run-out (freeBytes w) (openMarks (w .session .marks)) ks (o .ends-fit) in
         ap (λ (t : Told). t .number) (rectangle-told w job change r)
-        ∙ passed-by five (listRefusals w job p ks) (bare 0) (shaped-is .1 (ready, shaped))
-        ∙ ap (λ q. decided (refuseHeld q ∷ roomRefusals (fewPlaces w job p ks) (fewSlots w ks) (fewBytes w ks)) (bare 0) .number) (none-held rule m job p ks unheld)
-        ∙ sym (λ i. decided (roomRefusals (a i) (b i) (c i)) (bare 0) .number)
+        ∙ passed-by five (listRefusals w job p ks) (covered r) (shaped-is .1 (ready, shaped))
+        ∙ ap (λ q. decided (refuseHeld q ∷ roomRefusals (fewPlaces w job p ks) (fewSlots w ks) (fewBytes w ks)) (covered r) .number) (none-held rule m job p ks unheld)
+        ∙ sym (λ i. decided (roomRefusals (a i) (b i) (c i)) (covered r) .number)
 
     pub told-room : ((told .number ≡ 7) ↔ (places ≡ true))
         × ((told .number ≡ 8) ↔ ((places ≡ false) × (slots ≡ true)))
         × ((told .number ≡ 9) ↔ ((places ≡ false) × (slots ≡ false) × (bytes ≡ true)))
     unfolding RoomTold
-    told-room = subst (RoomTold places slots bytes) (sym room-told) (room-first places slots bytes)
+    told-room = subst (RoomTold places slots bytes) (sym room-told) (room-first r places slots bytes)

@@ -14,7 +14,7 @@ use Rattle.lists.specs.Truth.{Same, never, or-left, or-right, other, same, same
 use Rattle.strict.specs.Tiles.{member}
 use Rattle.service.specs.Addresses.{one-key}
 use Rattle.service.specs.Laws.Keys.{has-key, keyed-at}
-use Rattle.service.specs.Tile.{around, keyAt, keyOf, packKey, placedAt}
+use Rattle.service.specs.Tile.{around, keyAt, keyOf, packKey, placedAt, turnsIn}
 use Rattle.service.specs.declared.Address.{Address}
 use Rattle.rectangles.specs.Claims.{Apart, Before, Inside, Shaped}
 use Rattle.rectangles.specs.Fitting.{Placed}
@@ -26,7 +26,7 @@ use Rattle.rectangles.specs.declared.Rectangle.{Rectangle}
 pub placed-key : (a : Address) → unplaced a ≡ false → keyOf a ≡ some (keyFor a)
 placed-key a e = go (keyOf a) e
   where
-    go : (o : Option ℕ) → eqb (placedAt o .number) 5 ≡ false → o ≡ some (placedAt o .key)
+    go : (o : Option ℕ) → eqb (placedAt o (turnsIn a) .number) 5 ≡ false → o ≡ some (placedAt o (turnsIn a) .key)
     go (some k) e = refl
     go none e = never e
 
@@ -96,7 +96,7 @@ module _ (r : Rectangle) (s : Shaped r) where
 
   pub tile-placed : (i : ℕ) → unplaced (tileAt r i) ≡ false
   unfolding keyOf
-  tile-placed i = ap (λ o. eqb (placedAt o .number) 5) (tile-key i)
+  tile-placed i = ap (λ o. eqb (placedAt o (turnsIn (tileAt r i)) .number) 5) (tile-key i)
 
   tile-keyed : (i : ℕ) → keyAt (r .zoom) (columnOf i) (r .top +ℤ pos (i % height r)) ≡ some (keyFor (tileAt r i))
   unfolding keyOf
@@ -107,7 +107,7 @@ module _ (r : Rectangle) (s : Shaped r) where
       ≡ packKey (r .zoom) ((around (r .west) (2 ^ (r .zoom)) + i / height r) % (2 ^ (r .zoom))) (e .north + i % height r)
   unfolding keyOf
   key-stepped i =
-      ap (λ o. placedAt o .key) (tile-key i)
+      ap (λ o. placedAt o (turnsIn (tileAt r i)) .key) (tile-key i)
       ∙ ap (λ x. packKey (r .zoom) x (e .north + i % height r)) (around-add (r .west) (i / height r) (2 ^ (r .zoom)) (pow-pos (r .zoom)))
 
   pub all-placed : Placed (listed r)

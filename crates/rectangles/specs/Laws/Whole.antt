@@ -4,7 +4,7 @@ use mathlib.Core.List.{List, [], _∷_}
 use mathlib.Core.Logic.{_↔_, _≢_}
 use mathlib.Core.Option.{Option, none, some}
 use mathlib.Core.Path.{_∙_, _≡_, ap, refl, subst, sym}
-use Prim.Native.Nat.{_≤_, suc, zero, ℕ}
+use Prim.Native.Nat.{_^_, _≤_, suc, zero, ℕ}
 use native.Mathlib.Nat.{mul-le-mul}
 use native.Mathlib.Omega.{arith}
 use lib.Dec.{eqb}
@@ -20,13 +20,15 @@ use Rattle.service.specs.Demands.{all-marks}
 use Rattle.service.specs.History.{Call, From, called, started}
 use Rattle.service.specs.Laws.Accepting.{serves-is}
 use Rattle.service.specs.Laws.Telling.{Numbered, Passed, decided-among, held-numbered, not-held, told-zero}
-use Rattle.service.specs.Told.{bare, decided, refuseHeld}
+use Rattle.service.specs.Tile.{turnsOf}
+use Rattle.service.specs.Told.{decided, refuseHeld}
+use Rattle.service.specs.Turns.{TellsTurns, Turnless, decided-tells, held-turnless}
 use Rattle.service.specs.World.{World, state}
 use Rattle.rectangles.specs.Claims.{AllDone, FromMoves, Move, Shaped, callsOf, followed, leftBy, operations, plain, rectangle, refusingRectangle, starting, went, written}
 use Rattle.rectangles.specs.Fitting.{Fits}
 use Rattle.rectangles.specs.Laws.Fitting.{done-fits, done-ready, fits-done}
 use Rattle.rectangles.specs.Laws.Tiles.{all-apart, all-placed, extent}
-use Rattle.rectangles.specs.Rectangles.{area, carriedAll, firstHeld, keys, listRefusals, listed, procedureFor, rectangleCall, rectangleRefusals, sequence, tileAt}
+use Rattle.rectangles.specs.Rectangles.{area, carriedAll, covered, firstHeld, keys, listRefusals, listed, procedureFor, rectangleCall, rectangleRefusals, sequence, tileAt}
 use Rattle.rectangles.specs.declared.Change.{Change}
 use Rattle.rectangles.specs.declared.Rectangle.{Rectangle}
 
@@ -38,9 +40,18 @@ module _ (w : World) (job : ℕ) (change : Change) (r : Rectangle) where
   abbrev p : Procedure
   p = procedureFor change
 
-  pub rectangle-told : rectangleCall w job change r .told ≡ decided (rectangleRefusals w job p r) (bare 0)
+  pub rectangle-told : rectangleCall w job change r .told ≡ decided (rectangleRefusals w job p r) (covered r)
   unfolding rectangleCall
   rectangle-told = refl
+
+  pub tells-turns : TellsTurns (rectangleCall w job change r .told) (turnsOf (r .west) (2 ^ (r .zoom))) (turnsOf (r .east) (2 ^ (r .zoom)))
+  unfolding rectangleCall
+  tells-turns = decided-tells (rectangleRefusals w job p r) (covered r) (numbered-rectangle w job p r) turnless refl
+    where
+      turnless : Turnless (rectangleRefusals w job p r)
+      turnless =
+          ((refl, refl), ((refl, refl), ((refl, refl), ((refl, refl), ((refl, refl),
+          (held-turnless (firstHeld (w .session .rule) (state w .book) job p (keys (listed r))), ((refl, refl), ((refl, refl), ((refl, refl), tt)))))))))
 
   held-among : (o : Option ℕ) → member (refuseHeld o .says .number) refusingRectangle ≡ true
   held-among none = refl
@@ -49,13 +60,13 @@ module _ (w : World) (job : ℕ) (change : Change) (r : Rectangle) where
   pub told-among : rectangleCall w job change r .told .number ≢ 0 → member (rectangleCall w job change r .told .number) refusingRectangle ≡ true
   unfolding rectangleCall
   told-among =
-      decided-among refusingRectangle (rectangleRefusals w job p r) (bare 0)
+      decided-among refusingRectangle (rectangleRefusals w job p r) (covered r)
       (refl, (refl, (refl, (refl, (refl, (held-among (firstHeld (w .session .rule) (state w .book) job p (keys (listed r))), (refl, (refl, (refl, tt))))))))) refl
 
   -- told 0 is that no refusal applies
   pub rectangle-accepted : (rectangleCall w job change r .told .number ≡ 0) ↔ Passed (rectangleRefusals w job p r)
   unfolding rectangleCall
-  rectangle-accepted = told-zero (rectangleRefusals w job p r) (bare 0) (numbered-rectangle w job p r) refl
+  rectangle-accepted = told-zero (rectangleRefusals w job p r) (covered r) (numbered-rectangle w job p r) refl
 
   -- what it passed, by name
   record Accepted : Type 0 where

@@ -29,8 +29,8 @@ use Rattle.service.specs.Laws.Soundness.{sound-is}
 use Rattle.service.specs.Laws.Telling.{found-is, held-numbered, held-six, holder-told, not-held, some-not-none, told-exactly, told-whole, told-zero}
 use Rattle.service.specs.Limits.{lastJob}
 use Rattle.service.specs.Sound.{Entry, changing}
-use Rattle.service.specs.Tile.{keyOf}
-use Rattle.service.specs.Told.{Refusal, decided, done, refuse, refuseHeld}
+use Rattle.service.specs.Tile.{addressCall, keyOf}
+use Rattle.service.specs.Told.{Refusal, decided, done, refuse, refuseHeld, toldHeld}
 use Rattle.service.specs.World.{World, freeBytes, state, usedOperations, usedTiles}
 use Rattle.service.specs.declared.Address.{Address}
 use Rattle.service.specs.declared.Told.{Told}
@@ -71,7 +71,7 @@ module _ (o : Option ℕ) (b₇ b₈ b₉ : Bool) (t : Told) (z : t .number ≡ 
       let x = told-zero tests t (held-numbered o, (refl, (refl, (refl, tt)))) z in
       (λ e. let h = x .0 e in (not-held o (h .0), h .1 .0, h .1 .1 .0, h .1 .1 .1 .0), λ h. x .1 (free-is (h .0), (h .1, (h .2, (h .3, tt)))))
 
-  pub holder-first : (i : ℕ) → (decided tests t ≡ record { number = 6; answer = 0; holder = i }) ↔ (o ≡ some i)
+  pub holder-first : (i : ℕ) → (decided tests t ≡ toldHeld i) ↔ (o ≡ some i)
   holder-first i =
       let whole = told-whole [] (refuseHeld o) (refuse 7 b₇ ∷ refuse 8 b₈ ∷ refuse 9 b₉ ∷ []) t tt in (
         λ e. let a = found-is o .1 (six-first .0 (ap (λ (x : Told). x .number) e)) in holder-told o i a (sym (whole a) ∙ e),
@@ -131,7 +131,7 @@ module _ (w : World) (job : ℕ) (p : Procedure) (a : Address) (k : ℕ) (v : Se
   byteless = ltb (freeBytes w) (operationBytes w)
 
   abbrev answered : Told
-  answered = done (answerTo (state w) (operation job p k))
+  answered = done (answerTo (state w) (operation job p k)) (addressCall a .turns)
 
   told-is : operationCall w job p a .told ≡ decided (keyedRefusals w job p k) answered
   unfolding concluded
@@ -163,7 +163,7 @@ module _ (w : World) (job : ℕ) (p : Procedure) (a : Address) (k : ℕ) (v : Se
       (λ e. let d : length (state w .book .table) ≢ length (w .operations) = eqb-false _ _ e in omega arith, λ l. let d : length (state w .book .table) ≢ length (w .operations) = λ e. omega arith in ne-eqb _ _ d)
 
   -- 6, with its job, just where the table has a first holder
-  pub held-names : (i : ℕ) → (operationCall w job p a .told ≡ record { number = 6; answer = 0; holder = i })
+  pub held-names : (i : ℕ) → (operationCall w job p a .told ≡ toldHeld i)
       ↔ FirstHolder (w .session .rule) (begun job p k (usedTiles w)) (state w .book .table) i
   held-names i =
       let first = first-holder (w .session .rule) (begun job p k (usedTiles w)) (state w .book .table) i in

@@ -10,7 +10,7 @@ use lib.Dec.{eqb}
 use Rattle.lists.specs.Lists.{All}
 use Rattle.lists.specs.Truth.{both-false, never, or-left, or-right}
 use Rattle.strict.specs.Tiles.{member}
-use Rattle.service.specs.Told.{Refusal, decided, refuseHeld, refused}
+use Rattle.service.specs.Told.{Refusal, decided, refuseHeld, refused, toldHeld}
 use Rattle.service.specs.declared.Told.{Told}
 
 -- refusals that do not apply
@@ -41,7 +41,7 @@ pub found-is : (o : Option ℕ) → (refuseHeld o .applies ≡ true) ↔ (o ≢ 
 found-is none = (λ e. never (sym e), λ f. absurd (f refl))
 found-is (some j) = (λ e. some-not-none j, λ f. refl)
 
-pub holder-told : (o : Option ℕ) (i : ℕ) → refuseHeld o .applies ≡ true → refuseHeld o .says ≡ record { number = 6; answer = 0; holder = i } → o ≡ some i
+pub holder-told : (o : Option ℕ) (i : ℕ) → refuseHeld o .applies ≡ true → refuseHeld o .says ≡ toldHeld i → o ≡ some i
 holder-told none i a e = never (sym a)
 holder-told (some j) i a e = ap (λ (t : Told). some (t .holder)) e
 
