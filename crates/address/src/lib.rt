@@ -1,7 +1,7 @@
 // Tile addresses and their keys. What they promise is in service's specs/Tile.antt.
 ghost use mathlib.Core.Path.{_≡_};
 ghost use Prim.Native.Nat.{_<_, _^_, _≤_};
-ghost use Rattle.service.specs.Tile.{addressCall, around, isKey, keyAt, placed, placedAt, positionIn};
+ghost use Rattle.service.specs.Tile.{addressCall, around, isKey, keyAt, placed, placedAt, positionIn, turnsOf};
 ghost use Rattle.address.specs.Columns.{columnsByZoom};
 use service::Address;
 use service::COLUMN_FACTOR;
@@ -40,9 +40,22 @@ impl Level {
         }
     }
 
-    // The key of a column and a row of this level.
+    // The whole turns of a column round the world, below 0 westward: the division rounds down, and none is taken of a signed number.
+    pub fn turns(self, column: i32) -> i32
+        requires { ⌜ self .zoom ≤ 14 ⌝ }
+        ensures { λ r. ⌜ r ≡ turnsOf column (2 ^ (self .zoom)) ⌝ }
+    {
+        let columns = self.columns();
+        if column < 0 {
+            -1 - ((-1 - column) as u32 / columns) as i32
+        } else {
+            (column as u32 / columns) as i32
+        }
+    }
+
+    // The key of a column and a row of this level, with the turns of the column.
     pub fn key(self, column: i32, row: i32) -> Located
-        ensures { λ r. ⌜ placed r ≡ placedAt (keyAt (self .zoom) column row) ⌝ }
+        ensures { λ r. ⌜ placed r ≡ placedAt (keyAt (self .zoom) column row) (turnsOf column (2 ^ (self .zoom))) ⌝ }
     {
         let zoom = self.zoom;
         if row < 0 {
@@ -60,7 +73,10 @@ impl Level {
             return Located::Refused;
         }
         let x = Level::wrapped(column, columns);
-        Located::Key(zoom as u32 * ZOOM_FACTOR + x * COLUMN_FACTOR + y)
+        Located::Key {
+            key: zoom as u32 * ZOOM_FACTOR + x * COLUMN_FACTOR + y,
+            turns: self.turns(column),
+        }
     }
 
     // Whether a number is the key of some address.

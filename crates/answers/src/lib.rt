@@ -9,6 +9,7 @@ use sanbirogu::Reply;
 use terminal::print;
 use terminal::print_line_end;
 use terminal::print_named;
+use terminal::print_signed;
 
 // Zoom, column and row of a key, with this between them.
 pub fn print_tile(key: u32, between: &[u8]) {
@@ -24,27 +25,32 @@ pub fn print_reply(beginning: &[u8], reply: Reply) {
     print_named(beginning, told.number as u64);
     print_named(b" answer ", told.answer as u64);
     print_named(b" holder ", told.holder as u64);
+    print_signed(b" turns ", told.turns);
     print_line_end();
 }
 
-// A rectangle has no answer.
+// A rectangle has no answer, and the turns of its first column and of its last.
 pub fn print_whole(reply: Reply) {
     let told = sanbirogu::numbers(reply);
     print_named(b"reply ", told.number as u64);
     print_named(b" holder ", told.holder as u64);
+    print_signed(b" turns ", told.turns);
+    print_signed(b" ", told.last);
     print_line_end();
 }
 
-// The address step, after this beginning. The key is 0 where it refuses.
+// The address step, after this beginning. Key and turns are 0 where it refuses.
 pub fn print_located(beginning: &[u8], located: Located) {
     match located {
-        Located::Key(key) => {
+        Located::Key { key, turns } => {
             print_named(beginning, 0);
             print_named(b" key ", key as u64);
+            print_signed(b" turns ", turns);
         }
         Located::Refused => {
             print_named(beginning, 5);
             print_named(b" key ", 0);
+            print_named(b" turns ", 0);
         }
     }
     print_line_end();

@@ -33,8 +33,8 @@ fn session_of(marks: &[bool; 64], parts: &[usize; 4]) -> Session {
     }
 }
 
-// Gives the next session back in its parts, and the reply as its number, answer and holder.
-fn give(outcome: Outcome, marks: &mut [bool; 64], parts: &mut [usize; 4], reply: &mut [u64; 4]) {
+// Gives the next session back in its parts, and the reply as its number, answer, holder and turns.
+fn give(outcome: Outcome, marks: &mut [bool; 64], parts: &mut [usize; 4], reply: &mut [i32; 5]) {
     let answered = outcome.reply;
     let told = sanbirogu::numbers(answered);
     let next = outcome.session;
@@ -45,10 +45,13 @@ fn give(outcome: Outcome, marks: &mut [bool; 64], parts: &mut [usize; 4], reply:
     parts[2] = next.journal;
     let rule = next.rule;
     parts[3] = rule_number(rule);
-    reply[0] = told.number as u64;
-    reply[1] = told.answer as u64;
-    reply[2] = told.holder as u64;
-    reply[3] = 0;
+    reply[0] = told.number as i32;
+    reply[1] = told.answer as i32;
+    reply[2] = told.holder as i32;
+    let turns = told.turns;
+    let last = told.last;
+    reply[3] = turns;
+    reply[4] = last;
 }
 
 // The procedure of a number: 1 for ins, 2 for del, and mem for all others.
@@ -80,7 +83,7 @@ pub extern "C" fn bench_start(
     journal: &mut [u8],
     count: usize,
     rule: usize,
-    reply: &mut [u64; 4],
+    reply: &mut [i32; 5],
 ) {
     let outcome = sanbirogu::start(tiles, count, operations, journal, rule_of(rule));
     give(outcome, marks, parts, reply);
@@ -94,7 +97,7 @@ pub extern "C" fn bench_open(
     operations: &[u64],
     journal: &mut [u8],
     job: u8,
-    reply: &mut [u64; 4],
+    reply: &mut [i32; 5],
 ) {
     let session = session_of(marks, parts);
     let outcome = sanbirogu::open(session, tiles, operations, journal, job);
@@ -113,7 +116,7 @@ pub extern "C" fn bench_operation(
     zoom: u8,
     column: i32,
     row: i32,
-    reply: &mut [u64; 4],
+    reply: &mut [i32; 5],
 ) {
     let session = session_of(marks, parts);
     let address = Address { zoom, column, row };
@@ -151,7 +154,7 @@ pub extern "C" fn bench_rectangle(
     east: i32,
     top: i32,
     bottom: i32,
-    reply: &mut [u64; 4],
+    reply: &mut [i32; 5],
 ) {
     let session = session_of(marks, parts);
     let sheet = Rectangle {
@@ -181,7 +184,7 @@ pub extern "C" fn bench_commit(
     operations: &mut [u64],
     journal: &mut [u8],
     job: u8,
-    reply: &mut [u64; 4],
+    reply: &mut [i32; 5],
 ) {
     let session = session_of(marks, parts);
     let outcome = sanbirogu::commit(session, tiles, operations, journal, job);
@@ -196,7 +199,7 @@ pub extern "C" fn bench_abort(
     operations: &mut [u64],
     journal: &mut [u8],
     job: u8,
-    reply: &mut [u64; 4],
+    reply: &mut [i32; 5],
 ) {
     let session = session_of(marks, parts);
     let outcome = sanbirogu::abort(session, tiles, operations, journal, job);

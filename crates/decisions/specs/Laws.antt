@@ -4,6 +4,7 @@ use mathlib.Core.List.{List, [], _++_, _∷_}
 use mathlib.Core.Path.{_∙_, _≡_, ap, refl, sym}
 use Prim.Native.Nat.{_*_, _+_, _<_, _≤_, ℕ}
 use lib.Dec.{eqb, ltb}
+use lib.IntN.{pos, ℤ}
 use lib.ListN.{length}
 use borrow.Author.Tests.{eqb-true, le-ltb, lt-ltb, not-false}
 use Rattle.lists.specs.Truth.{never}
@@ -86,20 +87,20 @@ module _ (w : World) (job : ℕ) (p : Procedure) (k : ℕ) where
   abbrev noBytes : Bool
   noBytes = ltb (freeBytes w) (operationSize + shortSize * openMarks (w .session .marks))
 
-  pub judges-held : (by : ℕ) → Meaning (Held by) → Judges w job p k (Refuse (reply.Held by))
-  judges-held by h = (λ t. rw h, refl)
+  pub judges-held : (turns : ℤ) (by : ℕ) → Meaning (Held by) → Judges w job p k turns (Refuse (reply.Held by))
+  judges-held turns by h = (λ t. rw h, refl)
 
-  pub judges-no-place : Meaning NoTileRoom → Judges w job p k (Refuse reply.NoTileRoom)
-  judges-no-place h = (λ t. rw (h .0, h .1), refl)
+  pub judges-no-place : (turns : ℤ) → Meaning NoTileRoom → Judges w job p k turns (Refuse reply.NoTileRoom)
+  judges-no-place turns h = (λ t. rw (h .0, h .1), refl)
 
-  pub judges-no-slot : Meaning NoOperationRoom → Judges w job p k (Refuse reply.NoOperationRoom)
-  judges-no-slot h = (λ t. rw (h .0, h .1, h .2), refl)
+  pub judges-no-slot : (turns : ℤ) → Meaning NoOperationRoom → Judges w job p k turns (Refuse reply.NoOperationRoom)
+  judges-no-slot turns h = (λ t. rw (h .0, h .1, h .2), refl)
 
-  pub judges-no-bytes : (x : Spot) → Meaning (Admitted x) → noBytes ≡ true → Judges w job p k (Refuse reply.NoJournalRoom)
-  judges-no-bytes x h n = (λ t. rw (h .0, h .1, h .2, n), refl)
+  pub judges-no-bytes : (turns : ℤ) (x : Spot) → Meaning (Admitted x) → noBytes ≡ true → Judges w job p k turns (Refuse reply.NoJournalRoom)
+  judges-no-bytes turns x h n = (λ t. rw (h .0, h .1, h .2, n), refl)
 
-  pub judges-perform : (x : Spot) → Meaning (Admitted x) → noBytes ≡ false → Judges w job p k (Perform x)
-  judges-perform x h n = (rw (h .0, h .1, h .2, n), h .3)
+  pub judges-perform : (turns found : ℤ) (x : Spot) → Meaning (Admitted x) → noBytes ≡ false → found ≡ turns → Judges w job p k turns (Perform x found)
+  judges-perform turns found x h n is = (rw (h .0, h .1, h .2, n), h .3, is)
 
 -- what a list with a number for each refusal decides, it decides whatever follows it
 pub gate-refuses : (rs : List Refusal) (t u : Told) → eqb (t .number) 0 ≡ true → eqb (decided rs t .number) 0 ≡ false → decided rs t ≡ decided rs u
@@ -117,16 +118,16 @@ module _ (w : World) (job : ℕ) (p : Procedure) (a : Address) where
   rest = refuse 5 (eqb (addressCall a .number) 5) ∷ keyedRefusals w job p (addressCall a .key)
 
   -- where the gate refuses
-  pub decides-gate : (r : Reply) → told r ≡ decided (endRefusals w job) (done false) → eqb (told r .number) 0 ≡ false → Decides w job p a (Refuse r)
+  pub decides-gate : (r : Reply) → told r ≡ decided (endRefusals w job) (done false (pos 0)) → eqb (told r .number) 0 ≡ false → Decides w job p a (Refuse r)
   decides-gate r h n =
-      (λ t. h ∙ gate-refuses (endRefusals w job) (done false) (decided rest t) refl (ap (λ (x : Told). eqb (x .number) 0) (sym h) ∙ n) ∙ sym (decided-append (endRefusals w job) rest t), n)
+      (λ t. h ∙ gate-refuses (endRefusals w job) (done false (pos 0)) (decided rest t) refl (ap (λ (x : Told). eqb (x .number) 0) (sym h) ∙ n) ∙ sym (decided-append (endRefusals w job) rest t), n)
 
   -- where it does not
-  gate-passed : (r : Reply) → told r ≡ decided (endRefusals w job) (done false) → eqb (told r .number) 0 ≡ true → refused (endRefusals w job) ≡ false
+  gate-passed : (r : Reply) → told r ≡ decided (endRefusals w job) (done false (pos 0)) → eqb (told r .number) 0 ≡ true → refused (endRefusals w job) ≡ false
   gate-passed r h z =
-      decided-done (endRefusals w job) (done false) (numbered w (committing job)) (ap (λ (x : Told). x .number) (sym h) ∙ eqb-true (told r .number) 0 z)
+      decided-done (endRefusals w job) (done false (pos 0)) (numbered w (committing job)) (ap (λ (x : Told). x .number) (sym h) ∙ eqb-true (told r .number) 0 z)
 
-  module _ (gate : Reply) (is : told gate ≡ decided (endRefusals w job) (done false)) (zero : eqb (told gate .number) 0 ≡ true) where
+  module _ (gate : Reply) (is : told gate ≡ decided (endRefusals w job) (done false (pos 0))) (zero : eqb (told gate .number) 0 ≡ true) where
     pub passed-sound : Sound w
     passed-sound = sound-is w (not-false (soundB w) (unrefused (endRefusals w job) (gate-passed gate is zero) .0))
 
@@ -141,7 +142,10 @@ module _ (w : World) (job : ℕ) (p : Procedure) (a : Address) where
     pub decides-no-key : placed Refused ≡ addressCall a → Decides w job p a (Refuse reply.OutOfRange)
     decides-no-key h = (after-gate (placed Refused) h, refl)
 
-    pub decides-judged : (k : ℕ) (d : Decision) → placed (Key k) ≡ addressCall a → Judges w job p k d → Decides w job p a d
-    decides-judged k (Refuse r) h j = (λ t. j .0 t ∙ after-gate (placed (Key k)) h t, j .1)
-    decides-judged k (Perform spot) h j =
-        (refused-append (endRefusals w job) rest (gate-passed gate is zero) (ap (λ (x : Placed). refused (following x)) (sym h) ∙ j .0), j .1 ∙ ap (λ (x : Placed). spotOf (x .key) (usedTiles w)) h)
+    pub decides-judged : (k : ℕ) (turns : ℤ) (d : Decision) → placed (Key k turns) ≡ addressCall a → Judges w job p k turns d → Decides w job p a d
+    decides-judged k turns (Refuse r) h j = (λ t. j .0 t ∙ after-gate (placed (Key k turns)) h t, j .1)
+    decides-judged k turns (Perform spot found) h j = (
+      refused-append (endRefusals w job) rest (gate-passed gate is zero) (ap (λ (x : Placed). refused (following x)) (sym h) ∙ j .0),
+      j .1 ∙ ap (λ (x : Placed). spotOf (x .key) (usedTiles w)) h,
+      j .2 ∙ ap (λ (x : Placed). x .turns) h,
+    )

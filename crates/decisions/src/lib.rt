@@ -2,6 +2,7 @@
 ghost use mathlib.Core.Bool.{false};
 ghost use mathlib.Core.Path.{_≡_};
 ghost use lib.Dec.{eqb};
+ghost use lib.IntN.{pos};
 ghost use Rattle.service.specs.Calls.{endRefusals, openRefusals};
 ghost use Rattle.service.specs.Sound.{Sound};
 ghost use Rattle.service.specs.Told.{bare, decided, done, told};
@@ -19,10 +20,10 @@ use service::Told;
 use strict::Procedure;
 use tiles::Spot;
 
-// What an operation comes to: a refusal, or the key on which it is to be performed, with what the search for it found.
+// What an operation comes to: a refusal, or the key on which it is to be performed, with what the search for it found and the turns of its column.
 pub enum Decision {
     Refuse(Reply),
-    Perform(Spot),
+    Perform { spot: Spot, turns: i32 },
 }
 
 // A number whose other fields are 0.
@@ -33,6 +34,8 @@ fn bare_number(number: u8) -> Told
         number,
         answer: 0,
         holder: 0,
+        turns: 0,
+        last: 0,
     }
 }
 
@@ -41,10 +44,16 @@ pub fn numbers(reply: Reply) -> Told
     ensures { λ r. ⌜ r ≡ told reply ⌝ }
 {
     match reply {
-        Reply::Done(ok) => Told {
+        Reply::Done {
+            answer,
+            turns,
+            last,
+        } => Told {
             number: 0,
-            answer: ok as u8,
+            answer: answer as u8,
             holder: 0,
+            turns,
+            last,
         },
         Reply::NotSound => bare_number(1),
         Reply::NoSuchJob => bare_number(2),
@@ -55,6 +64,8 @@ pub fn numbers(reply: Reply) -> Told
             number: 6,
             answer: 0,
             holder: job,
+            turns: 0,
+            last: 0,
         },
         Reply::NoTileRoom => bare_number(7),
         Reply::NoOperationRoom => bare_number(8),
@@ -79,7 +90,7 @@ pub fn open_reply(
     journal: &[u8],
     job: u8,
 ) -> Reply
-    ensures { λ r. ⌜ told r ≡ decided (openRefusals (world session (now (tiles .entry)) (now (operations .entry)) (now (journal .entry))) job) (done false) ⌝ }
+    ensures { λ r. ⌜ told r ≡ decided (openRefusals (world session (now (tiles .entry)) (now (operations .entry)) (now (journal .entry))) job) (done false (pos 0)) ⌝ }
 {
     if !soundness::sound(session, tiles, operations, journal) {
         return Reply::NotSound;
@@ -96,7 +107,11 @@ pub fn open_reply(
     if journal.len() - used < SHORT_SIZE + SHORT_SIZE * (open + 1) {
         return Reply::NoJournalRoom;
     }
-    Reply::Done(false)
+    Reply::Done {
+        answer: false,
+        turns: 0,
+        last: 0,
+    }
 }
 
 // What a commit or an abort replies.
@@ -107,7 +122,7 @@ pub fn end_reply(
     journal: &[u8],
     job: u8,
 ) -> Reply
-    ensures { λ r. ⌜ told r ≡ decided (endRefusals (world session (now (tiles .entry)) (now (operations .entry)) (now (journal .entry))) job) (done false) ⌝ }
+    ensures { λ r. ⌜ told r ≡ decided (endRefusals (world session (now (tiles .entry)) (now (operations .entry)) (now (journal .entry))) job) (done false (pos 0)) ⌝ }
 {
     if !soundness::sound(session, tiles, operations, journal) {
         return Reply::NotSound;
@@ -119,10 +134,14 @@ pub fn end_reply(
     if !session.marks[place] {
         return Reply::NotOpen;
     }
-    Reply::Done(false)
+    Reply::Done {
+        answer: false,
+        turns: 0,
+        last: 0,
+    }
 }
 
-// What an operation with a key comes to, on sound tables.
+// What an operation with a key and turns comes to, on sound tables.
 fn judge_keyed(
     session: Session,
     tiles: &[u32],
@@ -131,9 +150,10 @@ fn judge_keyed(
     job: u8,
     procedure: Procedure,
     key: u32,
+    turns: i32,
 ) -> Decision
     requires { ⌜ Sound (world session (now tiles) (now operations) (now journal)) ⌝ }
-    ensures { λ r. ⌜ Judges (world session (now (tiles .entry)) (now (operations .entry)) (now (journal .entry))) job procedure key r ⌝ }
+    ensures { λ r. ⌜ Judges (world session (now (tiles .entry)) (now (operations .entry)) (now (journal .entry))) job procedure key turns r ⌝ }
 {
     match admission::admit(session, tiles, operations, job, procedure, key) {
         Verdict::Held(holder) => Decision::Refuse(Reply::Held(holder)),
@@ -144,7 +164,7 @@ fn judge_keyed(
             if journal.len() - used < OPERATION_SIZE + SHORT_SIZE * scans::open_jobs(session) {
                 return Decision::Refuse(Reply::NoJournalRoom);
             }
-            Decision::Perform(spot)
+            Decision::Perform { spot, turns }
         }
     }
 }
@@ -167,6 +187,8 @@ pub fn operation_decision(
     }
     match address::locate(address) {
         Located::Refused => Decision::Refuse(Reply::OutOfRange),
-        Located::Key(key) => judge_keyed(session, tiles, operations, journal, job, procedure, key),
+        Located::Key { key, turns } => judge_keyed(
+            session, tiles, operations, journal, job, procedure, key, turns,
+        ),
     }
 }

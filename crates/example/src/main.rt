@@ -42,6 +42,8 @@ fn main() {
         Procedure::Ins,
         place(),
     );
+    let told = put.reply;
+    print_reply(b"insert: ", told);
     let put_all = sanbirogu::rectangle(
         put.session,
         &mut tiles,

@@ -21,7 +21,7 @@ use Rattle.strict.specs.declared.Rule.{Rule}
 use Rattle.service.specs.Admission.{openMarks}
 use Rattle.service.specs.Entry.{keyIn, opIn}
 use Rattle.service.specs.Limits.{operationSize, shortSize}
-use Rattle.service.specs.Told.{bare, decided}
+use Rattle.service.specs.Told.{bare, decided, toldHeld}
 use Rattle.service.specs.World.{World, freeBytes, state}
 use Rattle.service.specs.declared.Told.{Told}
 use Rattle.rectangles.specs.Laws.Apart.{holds-not}
@@ -166,7 +166,7 @@ module _ (w : World) (job : ℕ) (p : Procedure) (l : List ℕ) (n : ℕ) (fits 
   ks = take n l
 
   pub held-told : (by : ℕ) → Finds (w .session .rule) (state w .book) job p ks (found.Held by)
-      → record { number = 6; answer = 0; holder = by } ≡ decided (listRefusals w job p ks) (bare 0)
+      → toldHeld by ≡ decided (listRefusals w job p ks) (bare 0)
   held-told by h = rw h
 
   module _ (need : ℕ) (h : Finds (w .session .rule) (state w .book) job p ks (found.Needs need)) where

@@ -144,7 +144,11 @@ fn lacking(
     if journal.len() - written < OPERATION_SIZE * n + SHORT_SIZE * scans::open_jobs(session) {
         return Reply::NoJournalRoom;
     }
-    Reply::Done(false)
+    Reply::Done {
+        answer: false,
+        turns: 0,
+        last: 0,
+    }
 }
 
 // What the operations on a list of keys reply as a whole: 6, then 7, 8 and 9.

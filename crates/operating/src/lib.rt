@@ -43,7 +43,11 @@ pub fn start(
     journal::write_rule(journal, rule);
     let begun = soundness::fresh_session(rule, count);
     Outcome {
-        reply: Reply::Done(false),
+        reply: Reply::Done {
+            answer: false,
+            turns: 0,
+            last: 0,
+        },
         session: jobs::advanced(begun, written),
     }
 }
@@ -71,8 +75,8 @@ pub fn operation(
         address,
     ) {
         Decision::Refuse(reply) => Outcome { reply, session },
-        Decision::Perform(spot) => {
-            jobs::carry_out(session, tiles, operations, journal, job, procedure, spot)
-        }
+        Decision::Perform { spot, turns } => jobs::carry_out(
+            session, tiles, operations, journal, job, procedure, spot, turns,
+        ),
     }
 }

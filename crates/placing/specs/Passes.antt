@@ -13,7 +13,7 @@ use Rattle.service.specs.Told.{bare, decided}
 use Rattle.service.specs.World.{Reported, World}
 use Rattle.service.specs.declared.Told.{Told}
 use Rattle.rectangles.specs.Claims.{Apart}
-use Rattle.rectangles.specs.Rectangles.{carriedAll, listRefusals, mostInRectangle}
+use Rattle.rectangles.specs.Rectangles.{carriedAll, covered, listRefusals, mostInRectangle}
 use Rattle.rectangles.specs.declared.Rectangle.{Rectangle}
 use Rattle.shapes.specs.Shaping.{Shapes}
 use Rattle.shapes.specs.declared.Shape.the-variants.{Fine}
@@ -24,6 +24,10 @@ listAfter w job p ks t = record { told = t; after = cond (eqb (t .number) 0) (ca
 
 unfoldable pub listCall : World → ℕ → Procedure → List ℕ → Reported
 listCall w job p ks = listAfter w job p ks (decided (listRefusals w job p ks) (bare 0))
+
+-- a list that is done tells the turns of its rectangle
+abbrev pub turnsAdded : Rectangle → Told → Told
+turnsAdded r t = cond (eqb (t .number) 0) (covered r) t
 
 -- 1, 2 and 3 do not refuse, and the first n of l are keys of different tiles
 pub record Carries (w : World) (job : ℕ) (l : List ℕ) (n : ℕ) : Type 0 where

@@ -4,10 +4,12 @@ ghost use Prim.Native.Nat.{_≤_};
 ghost use lib.ListN.{length, take};
 ghost use Rattle.strict.specs.Tiles.{Ascending};
 ghost use Rattle.service.specs.Claims.{Serves};
+ghost use Rattle.service.specs.Told.{told};
 ghost use Rattle.service.specs.World.{reported, world};
 ghost use Rattle.rectangles.specs.Fitting.{Ahead};
 ghost use Rattle.rectangles.specs.Rectangles.{carriedAll, keys as keysOf, listed, procedureFor, rectangleCall};
-ghost use Rattle.placing.specs.Passes.{Asks, Carries, listCall};
+ghost use Rattle.placing.specs.Passes.{Asks, Carries, listCall, turnsAdded};
+use address::Level;
 use rectangles::Change;
 use rectangles::Rectangle;
 use service::Outcome;
@@ -140,6 +142,22 @@ fn carry_rectangle(
     )
 }
 
+// What a rectangle tells, once its list has been: where that is done, the turns of its first column and of its last.
+fn with_turns(reply: Reply, r: Rectangle) -> Reply
+    requires { ⌜ r .zoom ≤ 14 ⌝ }
+    ensures { λ x. ⌜ told x ≡ turnsAdded r (told reply) ⌝ }
+{
+    if !decisions::accepted(reply) {
+        return reply;
+    }
+    let level = Level { zoom: r.zoom };
+    Reply::Done {
+        answer: false,
+        turns: level.turns(r.west),
+        last: level.turns(r.east),
+    }
+}
+
 // Judges the shape of a rectangle, and carries it out where that is fine.
 fn carry_shaped(
     session: Session,
@@ -163,18 +181,18 @@ fn carry_shaped(
             reply: Reply::Misshapen,
             session,
         },
-        Shape::Fine { corner, height, n } => carry_rectangle(
-            session,
-            tiles,
-            operations,
-            journal,
-            job,
-            procedure_for(change),
-            r,
-            corner,
-            height,
-            n,
-        ),
+        Shape::Fine { corner, height, n } => {
+            let procedure = procedure_for(change);
+            let done = carry_rectangle(
+                session, tiles, operations, journal, job, procedure, r, corner, height, n,
+            );
+            let reply = done.reply;
+            let session = done.session;
+            Outcome {
+                reply: with_turns(reply, r),
+                session,
+            }
+        }
     }
 }
 

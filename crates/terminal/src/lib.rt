@@ -26,6 +26,16 @@ pub fn print_named(name: &[u8], n: u64) {
     print_number(n);
 }
 
+// The same of a number that may be below 0. Its distance from -1 fits also at the least number.
+pub fn print_signed(name: &[u8], n: i32) {
+    if n < 0 {
+        print(name);
+        print_named(b"-", (-1 - n) as u64 + 1);
+    } else {
+        print_named(name, n as u64);
+    }
+}
+
 pub fn print_line_end() {
     print(b"\n");
 }

@@ -3,6 +3,7 @@ use mathlib.Core.Bool.{false, true}
 use mathlib.Core.Path.{_≡_}
 use native.Mathlib.Omega.{arith}
 use denote.Ref.{now}
+use lib.IntN.{pos}
 use borrow.Author.Needs.{needs}
 use borrow.Author.Tests.{not-false, not-true}
 use Rattle.lists.specs.Truth.{test-fails, test-passes}
@@ -21,7 +22,7 @@ sound-requires : tie.Need-sound-requires
 sound-requires c κs = search needs
 
 returns : tie.Need-returns
-returns c = end-unsound _ (c .before .before .before .before .before .args .job) (done false) (test-fails (c .before .sound .ensures) (c .if1 .taken))
+returns c = end-unsound _ (c .before .before .before .before .before .args .job) (done false (pos 0)) (test-fails (c .before .sound .ensures) (c .if1 .taken))
 
 returns-2 : tie.Need-returns-2
 returns-2 c = end-no-job _ _ _ (passed (c .before)) (c .if2 .taken)

@@ -2,6 +2,7 @@
 use mathlib.Core.List.{[]}
 use mathlib.Core.Path.{_≡_, sym}
 use Prim.Native.Nat.{_*_, _+_}
+use mir.Facts.{toZ-ofZ}
 use borrow.Author.Needs.{needs}
 use borrow.Author.Tests.{le-ltb, lt-ltb}
 use denote.Ref.{now}
@@ -58,30 +59,30 @@ returns : tie.Need-returns
 returns c =
     let seen = c .before .before .before in
     let s = seen .before .before .before .before .before .before in
-    judges-no-bytes (given s) (s .args .job) (s .args .procedure) (s .args .key) _ (meaning (seen .before .before) _ (seen .spot .given .1))
+    judges-no-bytes (given s) (s .args .job) (s .args .procedure) (s .args .key) (s .args .turns) _ (meaning (seen .before .before) _ (seen .spot .given .1))
     (lt-ltb _ (operationSize + shortSize * openMarks (s .args .session .marks)) (rw (sym (c .before .open-jobs .ensures .0)) (c .if1 .taken)))
 
 returns-2 : tie.Need-returns-2
 returns-2 c =
     let s = c .before .before .before .before .before .before .before in
-    judges-held (given s) (s .args .job) (s .args .procedure) (s .args .key) _ (meaning (c .before .before .before) _ (c .before .holder .given .1))
+    judges-held (given s) (s .args .job) (s .args .procedure) (s .args .key) (s .args .turns) _ (meaning (c .before .before .before) _ (c .before .holder .given .1))
 
 returns-3 : tie.Need-returns-3
 returns-3 c =
     let s = c .before .before .before .before .before .before in
-    judges-no-place (given s) (s .args .job) (s .args .procedure) (s .args .key) (meaning (c .before .before) NoTileRoom (c .enum-told .given .1))
+    judges-no-place (given s) (s .args .job) (s .args .procedure) (s .args .key) (s .args .turns) (meaning (c .before .before) NoTileRoom (c .enum-told .given .1))
 
 returns-4 : tie.Need-returns-4
 returns-4 c =
     let s = c .before .before .before .before .before .before in
-    judges-no-slot (given s) (s .args .job) (s .args .procedure) (s .args .key) (meaning (c .before .before) NoOperationRoom (c .enum-told2 .given .1))
+    judges-no-slot (given s) (s .args .job) (s .args .procedure) (s .args .key) (s .args .turns) (meaning (c .before .before) NoOperationRoom (c .enum-told2 .given .1))
 
 returns-5 : tie.Need-returns-5
 returns-5 c =
     let seen = c .before .before .before in
     let s = seen .before .before .before .before .before .before in
-    judges-perform (given s) (s .args .job) (s .args .procedure) (s .args .key) _ (meaning (seen .before .before) _ (seen .spot .given .1))
-    (le-ltb _ (operationSize + shortSize * openMarks (s .args .session .marks)) (rw (sym (c .before .open-jobs .ensures .0)) (c .if1 .left)))
+    judges-perform (given s) (s .args .job) (s .args .procedure) (s .args .key) (s .args .turns) _ _ (meaning (seen .before .before) _ (seen .spot .given .1))
+    (le-ltb _ (operationSize + shortSize * openMarks (s .args .session .marks)) (rw (sym (c .before .open-jobs .ensures .0)) (c .if1 .left))) (toZ-ofZ (s .fits .turns))
 
 pub judge-keyed-spec : {M : Type 1} → statement M
 judge-keyed-spec =

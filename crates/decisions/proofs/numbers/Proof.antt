@@ -1,13 +1,14 @@
 -- `decisions::numbers` meets its contract: by the reply
 use borrow.Author.Needs.{needs}
+use Rattle.address.proofs.Signed.{field-read}
 use Rattle.decisions.proofs.numbers.Statement.{statement}
 use Rattle.decisions.proofs.numbers.Tie as tie
 
 enum-known-reply : tie.Need-enum-known-reply
 enum-known-reply c = search needs
 
-cast-t5 : tie.Need-cast-t5
-cast-t5 c = search needs
+cast-t7 : tie.Need-cast-t7
+cast-t7 c = search needs
 
 enum-told : tie.Need-enum-told
 enum-told c = search needs
@@ -67,7 +68,10 @@ bare-number-requires-9 : tie.Need-bare-number-requires-9
 bare-number-requires-9 c κs = search needs
 
 returns : tie.Need-returns
-returns c = rw (c .before .reply .given .1)
+returns c =
+    let bounds = c .known-told .given in
+    let fields = c .before .reply .given .0 in
+    rw (c .before .reply .given .1, field-read (fields .1 .0) (bounds .1 .0 .1), field-read (fields .1 .1 .0) (bounds .1 .1 .0 .1))
 
 returns-2 : tie.Need-returns-2
 returns-2 c = rw (c .before .enum-told .given .1) (c .bare-number .ensures)
@@ -104,7 +108,7 @@ numbers-spec =
     tie.close
     (tie.spec
     enum-known-reply
-    cast-t5
+    cast-t7
     enum-told
     bare-number-requires
     enum-told-2

@@ -8,6 +8,7 @@ use Rattle.lists.specs.Truth.{test-fails, test-passes}
 use Rattle.service.specs.Tile.{placed}
 use Rattle.service.specs.Told.{told}
 use Rattle.service.specs.World.{World, world}
+use Rattle.address.proofs.Signed.{field-read}
 use Rattle.decisions.proofs.operation_decision.Statement.{statement}
 use Rattle.decisions.specs.Laws.{decides-gate, decides-judged, decides-no-key, passed-sound}
 use Rattle.decisions.proofs.operation_decision.Tie as tie
@@ -61,8 +62,9 @@ returns-3 c =
     let e = key .before .before .before in
     let s = e .before .before .before .before .before .before in
     let gate = e .before .before .end-reply in
-    decides-judged (given s) (s .args .job) (s .args .procedure) (s .args .address) (gate .result) (gate .ensures) (zero e) _ (c .judge-keyed .result)
-    (ap placed (sym (key .key .given .1)) ∙ key .before .before .locate .ensures) (c .judge-keyed .ensures)
+    decides-judged (given s) (s .args .job) (s .args .procedure) (s .args .address) (gate .result) (gate .ensures) (zero e) _ _ (c .judge-keyed .result)
+    (ap placed (sym (key .key .given .1)) ∙ key .before .before .locate .ensures)
+    (rw (field-read (key .key .given .0 .1 .0) (c .before .known-told .given .1 .0 .1)) at (c .judge-keyed .ensures))
 
 pub operation-decision-spec : {M : Type 1} → statement M
 operation-decision-spec =

@@ -2,6 +2,7 @@
 use mathlib.Core.Path.{_∙_}
 use borrow.Author.Needs.{needs}
 use denote.Ref.{now}
+use Rattle.address.proofs.Signed.{field-read}
 use Rattle.service.specs.World.{World, world}
 use Rattle.operating.specs.Laws.{carried-decided, passes-decided, refusal-decided, spot-decided}
 use Rattle.operating.proofs.operation.Statement.{statement}
@@ -25,7 +26,7 @@ carry-out-requires c κs =
     let s = c .before .before .before .before .before .before .before .before .before .before .before .before .before in
     let decides = c .before .before .before .before .before .before .operation-decision .ensures in
     let is = c .before .before .before .before .spot .given .1 in
-    (passes-decided (given s) (s .args .job) (s .args .procedure) (s .args .address) _ decides _ is, spot-decided (given s) (s .args .job) (s .args .procedure) (s .args .address) _ decides _ is)
+    (passes-decided (given s) (s .args .job) (s .args .procedure) (s .args .address) _ decides _ _ is, spot-decided (given s) (s .args .job) (s .args .procedure) (s .args .address) _ decides _ _ is)
 
 same-length : tie.Need-same-length
 same-length c = search needs
@@ -56,8 +57,8 @@ returns-2 c =
     let spot = done .before .before .before .before .before in
     let decided = spot .before .before in
     let s = decided .before .before .before .before .before .before .before in
-    done .carry-out .ensures
-    ∙ carried-decided (given s) (s .args .job) (s .args .procedure) (s .args .address) _ (decided .operation-decision .ensures) _ (spot .spot .given .1)
+    (rw (field-read (spot .spot .given .0 .1 .0) (done .before .before .before .before .known-told2 .given .1 .0 .1)) at (done .carry-out .ensures))
+    ∙ carried-decided (given s) (s .args .job) (s .args .procedure) (s .args .address) _ (decided .operation-decision .ensures) _ _ (spot .spot .given .1)
 
 pub operation-spec : {M : Type 1} → statement M
 operation-spec =

@@ -2,9 +2,11 @@
 use mathlib.Core.Path.{_∙_, ap, subst}
 use borrow.Author.Needs.{needs}
 use denote.Ref.{now}
+use Rattle.rectangles.specs.Laws.Tiles.{extent}
 use Rattle.rectangles.specs.Rectangles.{keys, listed}
 use Rattle.service.specs.World.{World, world}
 use Rattle.shapes.specs.Shaping.{Shapes}
+use Rattle.shapes.specs.declared.Shape.the-variants.{Fine}
 use Rattle.placing.proofs.carry_shaped.Statement.{statement}
 use Rattle.placing.proofs.carry_shaped.Tie as tie
 use Rattle.placing.specs.Laws.Calling.{tells-five, tells-list, tells-thirteen}
@@ -29,10 +31,24 @@ enum-known-corner c = search needs
 procedure-for-requires : tie.Need-procedure-for-requires
 procedure-for-requires c κs = search needs
 
+-- the shape that was found, where it is fine
+fine : (k : tie.After-procedure-for) →
+    let s = k .before .before .before .before .before .before .before .before in
+    let found = k .before .before .corner .given .0 in
+    Shapes (s .args .r) (Fine (found .0) (found .1 .0) (found .1 .1 .0))
+fine k =
+    let s = k .before .before .before .before .before .before .before .before in
+    subst (Shapes (s .args .r)) (k .before .before .corner .given .1) (k .before .before .before .before .shape-of .ensures)
+
 carry-rectangle-requires : tie.Need-carry-rectangle-requires
 carry-rectangle-requires c κs =
-    let s = c .before .before .before .before .before .before .before .before .before .before .before in
-    record { ready = s .pre; shape = subst (Shapes (s .args .r)) (c .before .before .before .before .before .corner .given .1) (c .before .before .before .before .before .before .before .shape-of .ensures) }
+    let k = c .before .before .before in
+    record { ready = k .before .before .before .before .before .before .before .before .pre; shape = fine k }
+
+with-turns-requires : tie.Need-with-turns-requires
+with-turns-requires c κs =
+    let k = c .before .before .before .before .before .before .before .before .before .before .before in
+    extent (k .before .before .before .before .before .before .before .before .args .r) (fine k .0) .high
 
 returns : tie.Need-returns
 returns c =
@@ -55,13 +71,11 @@ same-length-3 c = search needs
 
 returns-3 : tie.Need-returns-3
 returns-3 c =
-    let carried = c .before .before .before .before .before .before in
-    let k = carried .before in
-    let s = k .before .before .before .before .before .before .before .before .before .before .before in
-    let f = subst (Shapes (s .args .r)) (k .before .before .before .before .before .corner .given .1) (k .before .before .before .before .before .before .before .shape-of .ensures) in
-    carried .carry-rectangle .ensures
-    ∙ ap (λ p. listCall (given s) (s .args .job) p (keys (listed (s .args .r)))) (k .procedure-for .ensures)
-    ∙ tells-list (given s) (s .args .job) (s .args .change) (s .args .r) (s .pre) (f .0)
+    let carried = c .before .before .before .before .before .before .before .before in
+    let k = carried .before .before .before .before in
+    let s = k .before .before .before .before .before .before .before .before in
+    let list = carried .carry-rectangle .ensures ∙ ap (λ p. listCall (given s) (s .args .job) p (keys (listed (s .args .r)))) (k .procedure-for .ensures) in
+    tells-list (given s) (s .args .job) (s .args .change) (s .args .r) (s .pre) (fine k .0) _ _ _ list (c .with-turns .ensures)
 
 pub carry-shaped-spec : {M : Type 1} → statement M
 carry-shaped-spec =
@@ -73,6 +87,7 @@ carry-shaped-spec =
     enum-known-corner
     procedure-for-requires
     carry-rectangle-requires
+    with-turns-requires
     returns
     returns-2
     same-length

@@ -1,9 +1,10 @@
 -- From the gate and the shape of a rectangle to what the call promises
-use mathlib.Core.Bool.{cond, false, true}
-use mathlib.Core.List.{List, _∷_}
+use mathlib.Core.Bool.{Bool, cond, false, true}
+use mathlib.Core.List.{List, [], _∷_}
 use mathlib.Core.Path.{_∙_, _≡_, ap, ap₂, refl, subst, sym}
 use Prim.Native.Nat.{_≤_, ℕ}
 use lib.Dec.{eqb}
+use lib.IntN.{pos}
 use lib.ListN.{length, take}
 use borrow.Author.Tests.{eqb-true, le-ltb, ltb-false, not-false}
 use Rattle.lists.specs.Lists.{All}
@@ -12,7 +13,7 @@ use Rattle.service.specs.Calls.{endRefusals}
 use Rattle.service.specs.Claims.{Serves}
 use Rattle.service.specs.History.{committing}
 use Rattle.service.specs.Laws.Accepting.{numbered}
-use Rattle.service.specs.Laws.Telling.{decided-done, unrefused}
+use Rattle.service.specs.Laws.Telling.{Numbered, decided-done, unrefused}
 use Rattle.service.specs.Tile.{isKey}
 use Rattle.service.specs.Told.{Refusal, bare, decided, done, refuse}
 use Rattle.service.specs.World.{Reported, World}
@@ -20,11 +21,12 @@ use Rattle.service.specs.declared.Told.{Told}
 use Rattle.decisions.specs.Laws.{decided-append, gate-refuses}
 use Rattle.rectangles.specs.Claims.{Apart, Shaped}
 use Rattle.rectangles.specs.Laws.Tiles.{all-apart}
-use Rattle.rectangles.specs.Rectangles.{carriedAll, keys, listRefusals, listed, misshapen, outOfRange, procedureFor, rectangleCall, rectangleRefusals}
+use Rattle.rectangles.specs.Rectangles.{carriedAll, covered, keys, listRefusals, listed, misshapen, outOfRange, procedureFor, rectangleCall, rectangleRefusals}
 use Rattle.rectangles.specs.declared.Change.{Change}
 use Rattle.rectangles.specs.declared.Rectangle.{Rectangle}
 use Rattle.shapes.specs.Laws.Listed.{all-valid, shape-few}
-use Rattle.placing.specs.Passes.{Asks, Carries, listAfter, listCall}
+use Rattle.placing.specs.Laws.Carrying.{list-numbered}
+use Rattle.placing.specs.Passes.{Asks, Carries, listAfter, listCall, turnsAdded}
 
 -- the list as it was written
 pub asks-carries : (w : World) (job : ℕ) (r : Rectangle) (corner height n : ℕ) → Asks w job r corner height n → (l : List ℕ) → n ≤ length l → take n l ≡ keys (listed r)
@@ -38,12 +40,21 @@ asks-carries w job r corner height n a l fits is =
       apart = subst Apart (sym is) (all-apart r (a .shape .0));
     }
 
+-- THE TURNS: told where a list decides 0
+pub turns-added : (r : Rectangle) (rs : List Refusal) → All Numbered rs → decided rs (covered r) ≡ turnsAdded r (decided rs (bare 0))
+turns-added r [] n = refl
+turns-added r (x ∷ rs) n = go (x .applies) (turns-added r rs (n .1))
+  where
+    go : (b : Bool) → decided rs (covered r) ≡ turnsAdded r (decided rs (bare 0)) → cond b (x .says) (decided rs (covered r)) ≡ turnsAdded r (cond b (x .says) (decided rs (bare 0)))
+    go true ih = sym (ap (λ b. cond b (covered r) (x .says)) (n .0))
+    go false ih = ih
+
 -- THE GATE: 1, 2 and 3
-module _ (w : World) (job : ℕ) (t : Told) (gate : t ≡ decided (endRefusals w job) (done false)) where
+module _ (w : World) (job : ℕ) (t : Told) (gate : t ≡ decided (endRefusals w job) (done false (pos 0))) where
   pub gate-ready : eqb (t .number) 0 ≡ true → Serves w job
   gate-ready zero =
       let h = unrefused (endRefusals w job)
-      (decided-done (endRefusals w job) (done false) (numbered w (committing job)) (ap (λ (x : Told). x .number) (sym gate) ∙ eqb-true (t .number) 0 zero)) in
+      (decided-done (endRefusals w job) (done false (pos 0)) (numbered w (committing job)) (ap (λ (x : Told). x .number) (sym gate) ∙ eqb-true (t .number) 0 zero)) in
       record { is-sound-there = not-false _ (h .0); small = ltb-false 63 job (h .1 .0); is-open = not-false _ (h .1 .1 .0) }
 
 module _ (w : World) (job : ℕ) (change : Change) (r : Rectangle) where
@@ -57,35 +68,47 @@ module _ (w : World) (job : ℕ) (change : Change) (r : Rectangle) where
   abbrev later : List Refusal
   later = refuse 5 (outOfRange r) ∷ refuse 13 (misshapen r) ∷ listRefusals w job p ks
 
-  call-is : rectangleCall w job change r ≡ listAfter w job p ks (decided (rectangleRefusals w job p r) (bare 0))
+  call-is : rectangleCall w job change r ≡ listAfter w job p ks (decided (rectangleRefusals w job p r) (covered r))
   unfolding rectangleCall
   call-is = refl
 
-  pub gate-told : (t : Told) → t ≡ decided (endRefusals w job) (done false) → eqb (t .number) 0 ≡ false → record { told = t; after = w } ≡ rectangleCall w job change r
+  pub gate-told : (t : Told) → t ≡ decided (endRefusals w job) (done false (pos 0)) → eqb (t .number) 0 ≡ false → record { told = t; after = w } ≡ rectangleCall w job change r
   gate-told t gate f =
-      let whole : t ≡ decided (rectangleRefusals w job p r) (bare 0) =
+      let whole : t ≡ decided (rectangleRefusals w job p r) (covered r) =
       gate
-      ∙ gate-refuses (endRefusals w job) (done false) (decided later (bare 0)) refl (ap (λ (x : Told). eqb (x .number) 0) (sym gate) ∙ f)
-      ∙ sym (decided-append (endRefusals w job) later (bare 0)) in
+      ∙ gate-refuses (endRefusals w job) (done false (pos 0)) (decided later (covered r)) refl (ap (λ (x : Told). eqb (x .number) 0) (sym gate) ∙ f)
+      ∙ sym (decided-append (endRefusals w job) later (covered r)) in
       ap {B = Reported} (λ b. record { told = t; after = cond b (carriedAll w job p ks) w }) (sym f) ∙ ap (listAfter w job p ks) whole ∙ sym call-is
 
   module _ (ready : Serves w job) where
-    past-gate : decided (rectangleRefusals w job p r) (bare 0) ≡ decided later (bare 0)
+    past-gate : decided (rectangleRefusals w job p r) (covered r) ≡ decided later (covered r)
     past-gate = rw (ready .is-sound-there, le-ltb 63 job (ready .small), ready .is-open)
 
     pub tells-five : outOfRange r ≡ true → record { told = bare 5; after = w } ≡ rectangleCall w job change r
     tells-five e =
-        let t : bare 5 ≡ decided (rectangleRefusals w job p r) (bare 0) = sym (past-gate ∙ rw e) in
+        let t : bare 5 ≡ decided (rectangleRefusals w job p r) (covered r) = sym (past-gate ∙ rw e) in
         ap (listAfter w job p ks) t ∙ sym call-is
 
     pub tells-thirteen : (outOfRange r ≡ false) × (misshapen r ≡ true) → record { told = bare 13; after = w } ≡ rectangleCall w job change r
     tells-thirteen e =
-        let t : bare 13 ≡ decided (rectangleRefusals w job p r) (bare 0) = sym (past-gate ∙ rw (e .0, e .1)) in
+        let t : bare 13 ≡ decided (rectangleRefusals w job p r) (covered r) = sym (past-gate ∙ rw (e .0, e .1)) in
         ap (listAfter w job p ks) t ∙ sym call-is
 
-    pub tells-list : Shaped r → listCall w job p ks ≡ rectangleCall w job change r
+    -- a list that is done tells the turns, and a refusal what it told
+    pub tells-list : Shaped r → (t x : Told) (v : World) → record { told = t; after = v } ≡ listCall w job p ks → x ≡ turnsAdded r t
+        → record { told = x; after = v } ≡ rectangleCall w job change r
     unfolding listCall
-    tells-list s =
-        let t : decided (listRefusals w job p ks) (bare 0) ≡ decided (rectangleRefusals w job p r) (bare 0) =
-        sym (past-gate ∙ ap₂ (λ a b. decided (refuse 5 a ∷ refuse 13 b ∷ listRefusals w job p ks) (bare 0)) (s .in-range) (s .well-formed)) in
-        ap (listAfter w job p ks) t ∙ sym call-is
+    tells-list s t x v e added =
+        let list : Told = decided (listRefusals w job p ks) (bare 0) in
+        let whole : turnsAdded r list ≡ decided (rectangleRefusals w job p r) (covered r) =
+        sym (turns-added r (listRefusals w job p ks) (list-numbered w job p ks))
+        ∙ sym (past-gate ∙ ap₂ (λ a b. decided (refuse 5 a ∷ refuse 13 b ∷ listRefusals w job p ks) (covered r)) (s .in-range) (s .well-formed)) in
+        ap {B = Reported} (λ y. record { told = y; after = v }) added
+        ∙ ap (λ (y : Reported). record { told = turnsAdded r (y .told); after = y .after }) e
+        ∙ ap {B = Reported} (λ b. record { told = turnsAdded r list; after = cond b (carriedAll w job p ks) w }) (same-number list (eqb (list .number) 0) refl)
+        ∙ ap (listAfter w job p ks) whole
+        ∙ sym call-is
+      where
+        same-number : (t : Told) (b : Bool) → eqb (t .number) 0 ≡ b → eqb (t .number) 0 ≡ eqb (turnsAdded r t .number) 0
+        same-number t true h = rw h
+        same-number t false h = sym (rw h h)

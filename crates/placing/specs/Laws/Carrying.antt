@@ -19,6 +19,9 @@ use Rattle.rectangles.specs.Rectangles.{carriedAll, firstHeld, listRefusals}
 use Rattle.placing.specs.Passes.{Carries, listCall}
 
 -- WHOLE OR NOT AT ALL
+pub list-numbered : (w : World) (job : ℕ) (p : Procedure) (ks : List ℕ) → All Numbered (listRefusals w job p ks)
+list-numbered w job p ks = (held-numbered (firstHeld (w .session .rule) (state w .book) job p ks), (refl, (refl, (refl, tt))))
+
 module _ (w : World) (job : ℕ) (p : Procedure) (ks : List ℕ) (t : Told) (same : t ≡ decided (listRefusals w job p ks) (bare 0)) where
   list-reports : (b : Bool) → eqb (t .number) 0 ≡ b → record { told = t; after = cond b (carriedAll w job p ks) w } ≡ listCall w job p ks
   unfolding listCall
@@ -33,13 +36,10 @@ module _ (w : World) (job : ℕ) (p : Procedure) (ks : List ℕ) (t : Told) (sam
     pub list-done : (v : World) → v ≡ carriedAll w job p ks → record { told = t; after = v } ≡ listCall w job p ks
     list-done v is = ap {B = Reported} (λ x. record { told = t; after = x }) is ∙ list-reports true zero
 
-    list-numbered : All Numbered (listRefusals w job p ks)
-    list-numbered = (held-numbered (firstHeld (w .session .rule) (state w .book) job p ks), (refl, (refl, (refl, tt))))
-
     list-fits : Serves w job → Fits w job p ks
     list-fits ready =
         let h = unrefused (listRefusals w job p ks)
-        (decided-done (listRefusals w job p ks) (bare 0) list-numbered (ap (λ (x : Told). x .number) (sym same) ∙ eqb-true (t .number) 0 zero)) in
+        (decided-done (listRefusals w job p ks) (bare 0) (list-numbered w job p ks) (ap (λ (x : Told). x .number) (sym same) ∙ eqb-true (t .number) 0 zero)) in
         record {
           ready = ready;
           unheld = not-held (firstHeld (w .session .rule) (state w .book) job p ks) (h .0);

@@ -65,7 +65,7 @@ measured-requires : tie.Need-measured-requires
 measured-requires c κs =
     let r = c .before .before .before .before .before .before .before .before .before .before .before .before .before .args .r in
     let k = c .before .before .before .before .before .before .before .before in
-    zoom-small (cornerAt (r .zoom) (r .west) (r .top)) (keyed-so _ _ _ (first k) (c .before .before .before .before .before .before .corner .given .1) .0)
+    zoom-small (cornerAt (r .zoom) (r .west) (r .top)) (keyed-so _ _ _ _ (first k) (c .before .before .before .before .before .before .corner .given .1) .0)
 
 returns : tie.Need-returns
 returns c =
@@ -83,8 +83,8 @@ returns-3 c =
     let r = c .before .before .before .before .before .before .before .before .before .before .before .before .before .before .args .r in
     let k = c .before .before .before .before .before .before .before .before .before in
     let f = fields (k .before) in
-    let a = keyed-so _ _ _ (first k) (c .before .before .before .before .before .before .before .corner .given .1) in
-    let b = keyed-so _ _ _ (second (c .before .before .before .before .before)) (c .before .before .before .enum-told3 .given .1) in
+    let a = keyed-so _ _ _ _ (first k) (c .before .before .before .before .before .before .before .corner .given .1) in
+    let b = keyed-so _ _ _ _ (second (c .before .before .before .before .before)) (c .before .before .before .enum-told3 .given .1) in
     let corner = c .before .before .before .before .before .before .before .corner .given .0 .0 in
     let w : c .before .before .span .result ≡ shape.width r = rw (f .west-read, f .east-read) at (c .before .before .span .ensures) in
     let h : c .before .span2 .result ≡ shape.height r = rw (f .top-read, f .bottom-read) at (c .before .span2 .ensures) in

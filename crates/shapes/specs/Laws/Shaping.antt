@@ -6,10 +6,11 @@ use Prim.Native.Nat.{_*_, _<_, _^_, _≤_, ℕ}
 use native.Mathlib.Nat.{mul-le-mul-right}
 use native.Mathlib.Omega.{arith}
 use lib.Dec.{eqb, ltb}
+use lib.IntN.{ℤ}
 use borrow.Author.Tests.{eq-eqb, le-ltb, lt-ltb, ne-eqb}
 use Rattle.lists.specs.Truth.{both-false, never}
 use Rattle.service.specs.Laws.Keys.{keyed-at}
-use Rattle.service.specs.Tile.{Placed, addressCall, keyOf, placed, placedAt}
+use Rattle.service.specs.Tile.{Placed, addressCall, keyOf, placed, placedAt, turnsIn}
 use Rattle.service.specs.declared.Address.{Address}
 use Rattle.service.specs.declared.Located.{Located}
 use Rattle.service.specs.declared.Located.the-variants.{Key, Refused}
@@ -42,15 +43,15 @@ module _ (zoom w h : ℕ) where
 pub refused-so : (a : Address) (v : Located) → placed v ≡ addressCall a → v ≡ Refused → unplaced a ≡ true
 refused-so a v e is = ap (λ (x : Placed). eqb (x .number) 5) (sym e) ∙ ap (λ l. eqb (placed l .number) 5) is
 
-pub keyed-so : (a : Address) (v : Located) (k : ℕ) → placed v ≡ addressCall a → v ≡ Key k → (unplaced a ≡ false) × (k ≡ keyFor a)
-keyed-so a v k e is =
+pub keyed-so : (a : Address) (v : Located) (k : ℕ) (turns : ℤ) → placed v ≡ addressCall a → v ≡ Key k turns → (unplaced a ≡ false) × (k ≡ keyFor a)
+keyed-so a v k turns e is =
     (ap (λ (x : Placed). eqb (x .number) 5) (sym e) ∙ ap (λ l. eqb (placed l .number) 5) is, sym (ap (λ l. placed l .key) is) ∙ ap (λ (x : Placed). x .key) e)
 
 pub zoom-small : (a : Address) → unplaced a ≡ false → a .zoom ≤ 14
 unfolding keyOf
 zoom-small a e = go (keyOf a) refl e
   where
-    go : (o : Option ℕ) → keyOf a ≡ o → eqb (placedAt o .number) 5 ≡ false → a .zoom ≤ 14
+    go : (o : Option ℕ) → keyOf a ≡ o → eqb (placedAt o (turnsIn a) .number) 5 ≡ false → a .zoom ≤ 14
     go (some k) h e = keyed-at (a .zoom) (a .column) (a .row) k h .high
     go none h e = never e
 

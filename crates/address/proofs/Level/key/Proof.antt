@@ -11,8 +11,8 @@ use mir.Val.{ofZ, toZ}
 use borrow.Author.Needs.{needs}
 use borrow.Author.Tests.{le-leb, le-ltb, lt-leb}
 use Rattle.service.specs.Laws.Keys.{around-lt, has-key, size-le}
-use Rattle.service.specs.Tile.{around}
-use Rattle.address.proofs.Signed.{above, below, cast-fits, read}
+use Rattle.service.specs.Tile.{around, turnsOf}
+use Rattle.address.proofs.Signed.{above, below, cast-fits, read, turns-read}
 use Rattle.address.proofs.Level.key.Statement.{statement}
 use Rattle.address.proofs.Level.key.Tie as tie
 
@@ -65,6 +65,9 @@ inside c = omega (arith, ap natAbs (row-read (c .before .before .before .before)
 wrapped-is : (c : tie.After-wrapped) → c .wrapped .result ≡ around (c .before .before .before .before .before .before .args .column) (c .before .before .columns .result)
 wrapped-is c = rw (toZ-ofZ (c .before .before .before .before .before .before .fits .column)) at (c .wrapped .ensures)
 
+turns-is : (c : tie.After-turns) → let s = c .before .before .before .before .before .before .before in c .turns .result ≡ turnsOf (s .args .column) (2 ^ s .args .self .zoom)
+turns-is c = rw (toZ-ofZ (c .before .before .before .before .before .before .before .fits .column)) at (c .turns .ensures)
+
 -- the column and the row, as they go into the key
 small : (c : tie.After-wrapped)
     → let s = c .before .before .before .before .before .before in (c .wrapped .result < 16384) × (natAbs (toZ w32 (ofZ w32 (s .args .row))) < 16384)
@@ -82,15 +85,21 @@ add-t12 c = omega (arith, small c)
 add-t13 : tie.Need-add-t13
 add-t13 c = omega (arith, small c)
 
+turns-requires : tie.Need-turns-requires
+turns-requires c κs = search needs
+
 returns-5 : tie.Need-returns-5
 returns-5 c =
-    let r = c .before .before .before .before .before in
+    let x = c .before in
+    let r = x .before .before .before .before .before in
     rw (
       row-read r,
       row-is r,
-      has-key _ _ _ (c .before .before .before .before .if2 .left) (c .before .before .before .if3 .left) (inside (c .before)),
-      wrapped-is c,
-      c .before .before .columns .ensures,
+      has-key _ _ _ (x .before .before .before .before .if2 .left) (x .before .before .before .if3 .left) (inside (x .before)),
+      wrapped-is x,
+      x .before .before .columns .ensures,
+      turns-is c,
+      turns-read _ (2 ^ r .before .args .self .zoom) (r .before .fits .column),
     )
 
 pub key-spec : {M : Type 1} → statement M
@@ -109,4 +118,5 @@ key-spec =
     mul-t11
     add-t12
     add-t13
+    turns-requires
     returns-5)
