@@ -4,7 +4,7 @@ use crate::console::Console;
 use crate::journal::rule_of_journal;
 use crate::journals::journal;
 use crate::line::{parse, Call, Command};
-use crate::occasions::occasions;
+use crate::occasions::{occasions, occasions_told};
 use crate::printed::printed_replay;
 use crate::rule::Rule;
 use crate::scripts::script;
@@ -27,6 +27,12 @@ fn sort_of(answer: &str) -> String {
         [word, ..] => word.to_string(),
         [] => String::new(),
     }
+}
+
+/// The number of an answer that is a reply.
+fn number_of(answer: &str) -> Option<u8> {
+    let rest = answer.strip_prefix("reply ")?;
+    rest.split(' ').next()?.parse().ok()
 }
 
 /// A name for the commands of one sort, with the rule where a rule decides the answer.
@@ -81,6 +87,10 @@ fn count_command(counts: &mut Counts, console: &mut Console, command: Command, l
     }
     let group = group_of(console, command);
     let answer = console.answer(line);
+    let told = number_of(&answer).map(|number| occasions_told(command, number));
+    for name in told.unwrap_or_default() {
+        count(counts, name_of_occasion(&name));
+    }
     let sort = sort_of(&answer);
     count(counts, name_of(&group, &sort));
     if sort == "reply  1" && is_on_session(command) {

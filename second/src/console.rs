@@ -7,7 +7,7 @@ use crate::mend::mend;
 use crate::picture::{help, picture};
 use crate::rectangle::{Rectangle, Sweep};
 use crate::replay::replay;
-use crate::reply::{numbers, Reply};
+use crate::reply::{numbers, sweep_numbers, Reply, SweepReply};
 use crate::service::{self, Address};
 use crate::session::{length_of, Session, Tables};
 use crate::words::record_text;
@@ -50,7 +50,9 @@ impl Console {
         match command {
             Command::Lend(tiles, operations, journal) => self.lend(tiles, operations, journal),
             Command::Call(call) => Some(reply_line(self.call(call))),
-            Command::Sweep(job, sweep, rectangle) => Some(self.sweep(job, sweep, rectangle)),
+            Command::Sweep(job, sweep, rectangle) => {
+                Some(sweep_line(self.sweep(job, sweep, rectangle)))
+            }
             Command::Address(address) => Some(address_line(address)),
             Command::Read(place) => Some(self.read(length_of(place))),
             Command::Replay(count, length) => self.replay(count, length_of(length)),
@@ -89,11 +91,9 @@ impl Console {
         }
     }
 
-    fn sweep(&mut self, job: u8, sweep: Sweep, rectangle: Rectangle) -> String {
+    fn sweep(&mut self, job: u8, sweep: Sweep, rectangle: Rectangle) -> SweepReply {
         let (session, tables) = (&mut self.session, &mut self.tables);
-        let reply = service::sweep(session, tables, job, sweep, rectangle);
-        let (number, _, holder) = numbers(reply);
-        format!("reply {} holder {}", number, holder)
+        service::sweep(session, tables, job, sweep, rectangle)
     }
 
     /// Changes something from outside; none for a place that is not lent.
@@ -187,13 +187,24 @@ fn sum_of(numbers: impl Iterator<Item = u64>) -> u64 {
 }
 
 fn reply_line(reply: Reply) -> String {
-    let (number, answer, holder) = numbers(reply);
-    format!("reply {} answer {} holder {}", number, answer, holder)
+    let (number, answer, holder, turns) = numbers(reply);
+    format!(
+        "reply {} answer {} holder {} turns {}",
+        number, answer, holder, turns
+    )
+}
+
+fn sweep_line(reply: SweepReply) -> String {
+    let (number, holder, turns) = sweep_numbers(reply);
+    format!(
+        "reply {} holder {} turns {} {}",
+        number, holder, turns.first, turns.last
+    )
 }
 
 fn address_line(address: Address) -> String {
-    match service::address_key(address) {
-        Ok(key) => format!("reply 0 key {}", key),
-        Err(refusal) => format!("reply {} key 0", refusal.number()),
+    match service::address_step(address) {
+        Ok(reached) => format!("reply 0 key {} turns {}", reached.tile.key(), reached.turns),
+        Err(refusal) => format!("reply {} key 0 turns 0", refusal.number()),
     }
 }

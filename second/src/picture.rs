@@ -18,7 +18,7 @@ pub const COMMANDS: [&str; 25] = [
     "mem job zoom column row  asks for a tile",
     "insall job zoom west east top bottom  inserts a rectangle",
     "delall job zoom west east top bottom  deletes a rectangle",
-    "address zoom column row  the key of an address",
+    "address zoom column row  the key of an address, and its turns",
     "read place  reads a record of the journal",
     "replay count length  replays the first bytes of the journal onto the tile table",
     "mend count length room  mends the first bytes of the journal into an output",

@@ -1,8 +1,8 @@
 //! Rectangles of tiles, as one call gives them.
 
 use crate::operation::Procedure;
-use crate::reply::Refusal;
-use crate::tile::{side_of, Tile};
+use crate::reply::{Refusal, Span};
+use crate::tile::{side_of, Reached, Tile};
 
 /// The most tiles of a rectangle.
 pub const MOST_LISTED: usize = 256;
@@ -36,13 +36,24 @@ pub struct Rectangle {
     pub bottom: i32,
 }
 
+/// The tiles of a rectangle west to east, in each column from top to bottom, and the turns of its
+/// west and of its east column.
+#[derive(Clone, Debug, PartialEq, Eq)]
+pub struct List {
+    pub tiles: Vec<Tile>,
+    pub turns: Span,
+}
+
 impl Rectangle {
-    /// The tiles west to east, in each column from top to bottom.
     pub fn tiles(self) -> Result<Vec<Tile>, Refusal> {
+        self.list().map(|list| list.tiles)
+    }
+
+    pub fn list(self) -> Result<List, Refusal> {
         let side = side_of(u32::from(self.zoom)).ok_or(Refusal::OutsideRange)?;
-        for row in [self.top, self.bottom] {
-            Tile::at(self.zoom, self.west, row).ok_or(Refusal::OutsideRange)?;
-        }
+        // Both rows are tested here, before anything else is judged.
+        let first = self.corner(self.west, self.top)?;
+        let last = self.corner(self.east, self.bottom)?;
         let (width, height) = (extent(self.west, self.east), extent(self.top, self.bottom));
         let listed = |count: u64| (1..=MOST_LISTED as u64).contains(&count);
         // The width is judged first, so that the product is small.
@@ -50,11 +61,21 @@ impl Rectangle {
             return Err(Refusal::WrongRectangle);
         }
         let columns = self.west..=self.east;
-        let list = columns.flat_map(|column| {
+        let tiles = columns.flat_map(|column| {
             let rows = self.top..=self.bottom;
             rows.filter_map(move |row| Tile::at(self.zoom, column, row))
         });
-        Ok(list.collect())
+        Ok(List {
+            tiles: tiles.collect(),
+            turns: Span {
+                first: first.turns,
+                last: last.turns,
+            },
+        })
+    }
+
+    fn corner(self, column: i32, row: i32) -> Result<Reached, Refusal> {
+        Reached::at(self.zoom, column, row).ok_or(Refusal::OutsideRange)
     }
 }
 

@@ -41,37 +41,53 @@ impl Refusal {
     }
 }
 
-/// What a call that was done answers.
+/// What a call that was done answers: an operation its answer and its turns, any other nothing.
 #[derive(Clone, Copy, Debug, PartialEq, Eq)]
 pub enum Answer {
     Nothing,
-    Ok,
-    Fail,
+    Operated { ok: bool, turns: i32 },
 }
 
 impl Answer {
-    pub fn of(ok: bool) -> Answer {
-        if ok {
-            Answer::Ok
-        } else {
-            Answer::Fail
+    pub fn number(self) -> u8 {
+        match self {
+            Answer::Nothing => 0,
+            Answer::Operated { ok, .. } => u8::from(ok),
         }
     }
 
-    pub fn number(self) -> u8 {
+    pub fn turns(self) -> i32 {
         match self {
-            Answer::Ok => 1,
-            Answer::Fail | Answer::Nothing => 0,
+            Answer::Nothing => 0,
+            Answer::Operated { turns, .. } => turns,
         }
     }
 }
 
 pub type Reply = Result<Answer, Refusal>;
 
-/// The reply as its number, answer and holder.
-pub fn numbers(reply: Reply) -> (u8, u8, u8) {
+/// The reply as its number, answer, holder and turns.
+pub fn numbers(reply: Reply) -> (u8, u8, u8, i32) {
     match reply {
-        Ok(answer) => (0, answer.number(), 0),
-        Err(refusal) => (refusal.number(), 0, refusal.holder()),
+        Ok(answer) => (0, answer.number(), 0, answer.turns()),
+        Err(refusal) => (refusal.number(), 0, refusal.holder(), 0),
+    }
+}
+
+/// The turns of a rectangle's west column and of its east column.
+#[derive(Clone, Copy, Debug, Default, PartialEq, Eq)]
+pub struct Span {
+    pub first: i32,
+    pub last: i32,
+}
+
+/// A rectangle answers its turns and nothing else.
+pub type SweepReply = Result<Span, Refusal>;
+
+/// The reply to a rectangle as its number, holder and turns.
+pub fn sweep_numbers(reply: SweepReply) -> (u8, u8, Span) {
+    match reply {
+        Ok(turns) => (0, 0, turns),
+        Err(refusal) => (refusal.number(), refusal.holder(), Span::default()),
     }
 }

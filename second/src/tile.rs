@@ -23,16 +23,39 @@ pub fn side_of(zoom: u32) -> Option<u32> {
     }
 }
 
-impl Tile {
+/// What an address leads to: a tile, and how many whole turns round the world lie between its
+/// column and the tile's, below 0 westward.
+#[derive(Clone, Copy, Debug, PartialEq, Eq)]
+pub struct Reached {
+    pub tile: Tile,
+    pub turns: i32,
+}
+
+impl Reached {
     /// The address step. Every column is accepted and taken round the world.
-    pub fn at(zoom: u8, column: i32, row: i32) -> Option<Tile> {
+    pub fn at(zoom: u8, column: i32, row: i32) -> Option<Reached> {
         let zoom = u32::from(zoom);
         let side = side_of(zoom)?;
         let row = u32::try_from(row).ok().filter(|row| *row < side)?;
-        // In 64 bits the remainder is never negative and the smallest column has no overflow.
-        let column = i64::from(column).rem_euclid(i64::from(side));
-        let column = u32::try_from(column).ok()?;
-        Some(Tile { zoom, column, row })
+        let (turns, column) = round_the_world(column, side)?;
+        let tile = Tile { zoom, column, row };
+        Some(Reached { tile, turns })
+    }
+}
+
+/// The whole turns that a column makes, and the column of the level that it is then.
+fn round_the_world(column: i32, side: u32) -> Option<(i32, u32)> {
+    // In 64 bits the remainder is never negative and the smallest column has no overflow.
+    let (column, side) = (i64::from(column), i64::from(side));
+    let turns = i32::try_from(column.div_euclid(side)).ok()?;
+    let column = u32::try_from(column.rem_euclid(side)).ok()?;
+    Some((turns, column))
+}
+
+impl Tile {
+    /// The tile of an address, however often its column goes round.
+    pub fn at(zoom: u8, column: i32, row: i32) -> Option<Tile> {
+        Reached::at(zoom, column, row).map(|reached| reached.tile)
     }
 
     /// The tile a key stands for; none for a number that is no key.

@@ -1,12 +1,15 @@
 //! Addresses and keys, by the numbers of the scope paper.
 
 use second::random::Random;
-use second::service::{address_key, Address};
+use second::service::{address_step, Address};
 use second::soundness::is_key;
 use second::tile::Tile;
 
 fn key(zoom: u8, column: i32, row: i32) -> Result<u32, u8> {
-    address_key(Address { zoom, column, row }).map_err(|refusal| refusal.number())
+    match address_step(Address { zoom, column, row }) {
+        Ok(reached) => Ok(reached.tile.key()),
+        Err(refusal) => Err(refusal.number()),
+    }
 }
 
 #[test]

@@ -6,7 +6,6 @@ use common::tables::{any_call, damage, some_bench, some_count};
 use common::*;
 use second::random::Random;
 use second::replay::replay;
-use second::reply::numbers;
 use second::rule::Rule;
 use second::service;
 use second::session::Session;
@@ -70,7 +69,7 @@ fn starts_and_replays_on_damaged_tables() {
         let count = some_count(&mut random, before.tables.tiles.len());
         let (session, reply) = service::start(&mut bench.tables, count, Rule::EachAlone);
         assert_eq!(bench.tables.journal, before.tables.journal);
-        let started = numbers(reply) == DONE;
+        let started = without_turns(reply) == DONE;
         let mut again = before.tables.clone();
         let outcome = replay(&[], &mut again.tiles, count, &mut again.operations);
         assert_eq!(outcome.reply == 0, started);
@@ -97,7 +96,7 @@ fn a_start_by_rule_2_differs_by_the_rule_and_four_bytes() {
         let (mut session, old_reply) = service::start(&mut old, count, Rule::EachAlone);
         let (new_session, new_reply) = service::start(&mut new, count, Rule::JobAsOne);
         if old_reply.is_ok() && old.journal.len() < 4 {
-            assert_eq!(numbers(new_reply), refused(9));
+            assert_eq!(without_turns(new_reply), refused(9));
             assert_eq!((new_session, new), (Session::empty(), bench.tables));
             continue;
         }

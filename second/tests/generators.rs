@@ -78,7 +78,7 @@ fn all_names() -> Vec<String> {
     let others = OTHER_ANSWERS
         .iter()
         .map(|(group, sort)| name_of(group, sort));
-    let occasions = occasion_names().map(name_of_occasion);
+    let occasions = occasion_names().map(|name| name_of_occasion(&name));
     broken
         .chain(replies)
         .chain(others)

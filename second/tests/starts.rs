@@ -3,7 +3,6 @@
 mod common;
 
 use common::*;
-use second::reply::numbers;
 use second::rule::{Rule, RULES};
 use second::service;
 use second::session::{Session, Tables};
@@ -32,7 +31,7 @@ fn a_start_decides_by_tiles_and_lengths() {
             let mut tables = used_tables(tiles, operations, journal);
             let before = tables.clone();
             let (session, reply) = service::start(&mut tables, 0, rule);
-            assert_eq!(numbers(reply), refused(due));
+            assert_eq!(without_turns(reply), refused(due));
             if due == 0 {
                 assert!(tables.operations.iter().all(|entry| *entry == 0));
                 assert_eq!(session.rule, rule);
@@ -51,7 +50,7 @@ fn a_start_decides_by_the_count() {
             let mut tables = Tables::lent(2, 1, 4);
             tables.tiles[0] = key;
             let (session, reply) = service::start(&mut tables, count, rule);
-            assert_eq!(numbers(reply), refused(due));
+            assert_eq!(without_turns(reply), refused(due));
             assert_eq!(session.tiles, if due == 0 { count } else { 0 });
             assert_eq!(tables.tiles, [key, 0]);
         }
@@ -63,7 +62,7 @@ fn a_start_by_rule_1_touches_no_journal_byte() {
     for length in 0..8 {
         let mut tables = used_tables(1, 1, length);
         let (session, reply) = service::start(&mut tables, 0, Rule::EachAlone);
-        assert_eq!(numbers(reply), DONE);
+        assert_eq!(without_turns(reply), DONE);
         assert_eq!(session, Session::empty());
         assert_eq!(tables.journal, vec![9; length]);
     }
@@ -76,11 +75,11 @@ fn a_start_by_rule_2_writes_four_bytes_and_needs_them() {
         let before = tables.clone();
         let (session, reply) = service::start(&mut tables, 0, Rule::JobAsOne);
         if length < 4 {
-            assert_eq!(numbers(reply), refused(9));
+            assert_eq!(without_turns(reply), refused(9));
             assert_eq!((session, tables), (Session::empty(), before));
             continue;
         }
-        assert_eq!(numbers(reply), DONE);
+        assert_eq!(without_turns(reply), DONE);
         assert_eq!(tables.journal[..4], [5, 0, 1, 2]);
         assert_eq!(tables.journal[4..], before.journal[4..]);
         let started = Session {
@@ -98,7 +97,7 @@ fn tables_that_are_not_sound_come_before_the_journal() {
     tables.tiles[0] = 1;
     for rule in RULES {
         let (session, reply) = service::start(&mut tables, 1, rule);
-        assert_eq!(numbers(reply), refused(1));
+        assert_eq!(without_turns(reply), refused(1));
         assert_eq!(session, Session::empty());
     }
 }

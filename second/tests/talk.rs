@@ -25,7 +25,7 @@ fn a_line_is_answered_with_its_line_feed_and_not_before() {
     assert_eq!(all_said(&mut talk, b"1 8"), "");
     assert_eq!(all_said(&mut talk, b""), "");
     assert_eq!(all_said(&mut talk, b"\n"), "lent 1 1 8\n");
-    let done = "reply 0 answer 0 holder 0\n";
+    let done = "reply 0 answer 0 holder 0 turns 0\n";
     assert_eq!(all_said(&mut talk, b"start 0 1\nop"), done);
     assert_eq!(
         all_said(&mut talk, b"en 1\n\nrea"),

@@ -1,10 +1,12 @@
 //! Occasions that the number in an answer does not show: what is special about a command before it
-//! is obeyed. The census counts them, so that none is left out.
+//! is obeyed, and about the turns that it is answered. The census counts them, so that none is left
+//! out.
 
 mod mending;
 mod named;
 mod own_tiles;
 mod rectangles;
+mod turns;
 
 use crate::console::Console;
 use crate::line::Command;
@@ -21,9 +23,16 @@ pub fn occasions(console: &Console, command: Command) -> Vec<&'static str> {
     .concat()
 }
 
-pub fn all_names() -> impl Iterator<Item = &'static str> {
+/// The occasions that a command is by the number that it is answered.
+pub fn occasions_told(command: Command, number: u8) -> Vec<String> {
+    turns::told(command, number)
+}
+
+pub fn all_names() -> impl Iterator<Item = String> {
     names_of(&own_tiles::NAMED)
         .chain(names_of(&rectangles::SHAPES))
         .chain(names_of(&rectangles::ROOMS))
         .chain(names_of(&mending::NAMED))
+        .map(str::to_string)
+        .chain(turns::all_names())
 }

@@ -4,7 +4,7 @@ use crate::random::Random;
 use crate::service::Address;
 use crate::tile::Tile;
 
-const SEAM_COLUMNS: [i32; 12] = [
+const SEAM_COLUMNS: [i32; 13] = [
     -1,
     0,
     15,
@@ -13,13 +13,14 @@ const SEAM_COLUMNS: [i32; 12] = [
     -17,
     31,
     1,
+    70_000,
     i32::MIN,
     i32::MAX,
     i32::MIN + 15,
     i32::MAX - 15,
 ];
 
-const ZOOMS: [u8; 12] = [4, 4, 4, 4, 4, 5, 6, 7, 9, 11, 13, 14];
+pub const LEVELS: [u8; 11] = [4, 5, 6, 7, 8, 9, 10, 11, 12, 13, 14];
 
 /// The addresses one episode speaks of.
 pub struct Pool {
@@ -30,18 +31,44 @@ fn last_row(zoom: u8) -> i32 {
     (1 << zoom) - 1
 }
 
-fn edge_column(random: &mut Random, zoom: u8) -> i32 {
+/// Columns of a level where a turn begins or ends, also the first turn and the last.
+pub fn ends_of_turns(zoom: u8) -> [i32; 12] {
     let side = last_row(zoom) + 1;
-    match random.below(6) {
-        0 => side - 1,
-        1 => side,
-        2 => -side,
-        _ => random.pick(&SEAM_COLUMNS),
+    [
+        i32::MIN,
+        i32::MIN + (side - 1),
+        i32::MIN + side,
+        -side - 1,
+        -side,
+        -1,
+        0,
+        side - 1,
+        side,
+        i32::MAX - side,
+        i32::MAX - (side - 1),
+        i32::MAX,
+    ]
+}
+
+fn edge_column(random: &mut Random, zoom: u8) -> i32 {
+    if random.one_in(2) {
+        random.pick(&ends_of_turns(zoom))
+    } else {
+        random.pick(&SEAM_COLUMNS)
+    }
+}
+
+/// Any level, and half of the time the smallest, where the same tiles are met most often.
+pub fn some_level(random: &mut Random) -> u8 {
+    if random.one_in(2) {
+        4
+    } else {
+        random.pick(&LEVELS)
     }
 }
 
 fn any_served(random: &mut Random) -> Address {
-    let zoom = random.pick(&ZOOMS);
+    let zoom = some_level(random);
     let row = match random.below(4) {
         0 => 0,
         1 => last_row(zoom),
@@ -53,7 +80,7 @@ fn any_served(random: &mut Random) -> Address {
 
 /// Any column and any row of any level.
 pub fn anywhere(random: &mut Random) -> Address {
-    let zoom = random.pick(&[4, 5, 6, 7, 8, 9, 10, 11, 12, 13, 14]);
+    let zoom = random.pick(&LEVELS);
     let row = i32::try_from(random.below(1 << zoom)).unwrap_or(0);
     let column = random.word() as i32;
     Address { zoom, column, row }

@@ -10,12 +10,13 @@ use crate::scripts::nowhere;
 use crate::scripts::replacing;
 use crate::scripts::replays;
 use crate::scripts::sweeping;
+use crate::scripts::turning;
 use crate::scripts::wild;
 use crate::scripts::writer::Writer;
 use crate::session::length_of;
 
 pub fn episode(writer: &mut Writer) {
-    match writer.random.below(860) {
+    match writer.random.below(960) {
         0..=129 => side_by_side(writer),
         130..=194 => small_journal(writer),
         195..=289 => from_nowhere(writer),
@@ -23,19 +24,20 @@ pub fn episode(writer: &mut Writer) {
         395..=434 => wild_damage(writer),
         435..=479 => replays::episode(writer),
         480..=514 => replays::foreign_journal(writer),
-        515..=564 => limits(writer),
-        565..=574 => only_bad_lines(writer),
-        575..=581 => crowd(writer),
-        582..=592 => filling::fill_middle_tables(writer),
-        593..=595 => filling::fill_journal_from_outside(writer),
-        596..=597 => filling::fill_operations_from_outside(writer),
-        598..=599 => filling::fill_tiles_from_outside(writer),
-        600..=602 => replacing::episode(writer),
-        603..=642 => sweeping::episode(writer),
-        643..=762 => sweeping::at_the_last_place(writer),
-        763..=822 => sweeping::held(writer),
-        823..=830 => sweeping::on_many_tiles(writer),
-        831..=855 => sweeping::edges(writer),
+        515..=584 => limits(writer),
+        585..=594 => only_bad_lines(writer),
+        595..=601 => crowd(writer),
+        602..=612 => filling::fill_middle_tables(writer),
+        613..=615 => filling::fill_journal_from_outside(writer),
+        616..=617 => filling::fill_operations_from_outside(writer),
+        618..=619 => filling::fill_tiles_from_outside(writer),
+        620..=622 => replacing::episode(writer),
+        623..=662 => sweeping::episode(writer),
+        663..=782 => sweeping::at_the_last_place(writer),
+        783..=842 => sweeping::held(writer),
+        843..=850 => sweeping::on_many_tiles(writer),
+        851..=875 => sweeping::edges(writer),
+        876..=955 => turning::episode(writer),
         _ => mending::at_the_most_bytes(writer),
     }
 }

@@ -14,6 +14,7 @@ mod rectangles;
 mod replacing;
 mod replays;
 mod sweeping;
+mod turning;
 mod wild;
 mod writer;
 mod wrong_entries;

@@ -2,7 +2,7 @@
 
 use crate::random::Random;
 use crate::rectangle::Rectangle;
-use crate::scripts::addresses::{anywhere, Pool};
+use crate::scripts::addresses::{anywhere, ends_of_turns, some_level, Pool};
 use crate::tile::side_of;
 
 /// Zoom, width and height of rectangles with about as many tiles as are taken.
@@ -122,9 +122,10 @@ pub fn middling(random: &mut Random) -> Rectangle {
 }
 
 fn across_the_seam(random: &mut Random) -> Rectangle {
-    let zoom = random.pick(&[4, 4, 4, 5, 9, 14]);
+    let zoom = some_level(random);
     let side = 1i32 << zoom;
-    let west = random.pick(&[-1, -2, side - 1, side - 3, -side - 1, 3 * side - 2, -4097]);
+    let end = random.pick(&ends_of_turns(zoom));
+    let west = random.pick(&[end, end.saturating_sub(1), side - 3, 3 * side - 2, -4097]);
     let width = random.between(2, 5) as i32;
     sized(zoom, (west, random.pick(&[0, 5])), width, 1)
 }
@@ -136,7 +137,8 @@ fn as_wide_as_the_level(random: &mut Random) -> Rectangle {
     let width = side + random.pick(&[0, 0, 0, 1, -1]);
     let most_rows = 256 / side;
     let height = random.pick(&[1, 1, most_rows, most_rows + 1]);
-    let west = random.pick(&[0, -1, 7, -side, i32::MIN, i32::MAX - side, -100_000]);
+    let (first, last) = (i32::MIN, i32::MAX - side);
+    let west = random.pick(&[0, -1, 7, -side, first, first + 1, last, last + 1, -100_000]);
     sized(zoom, (west, 0), width, height)
 }
 
@@ -148,7 +150,7 @@ pub fn large(random: &mut Random) -> Rectangle {
 
 fn far(random: &mut Random) -> Rectangle {
     let (west, east) = random.pick(&FAR_COLUMNS);
-    let zoom = random.pick(&[4, 4, 4, 5, 14]);
+    let zoom = some_level(random);
     Rectangle {
         zoom,
         west,

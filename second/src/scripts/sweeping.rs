@@ -143,14 +143,19 @@ pub fn edges(writer: &mut Writer) {
     writer.tell("open 1");
     for _ in 0..writer.random.between(8, 16) {
         let rectangle = at_an_edge(&mut writer.random, &pool);
-        let word = writer.random.pick(&["insall", "delall"]);
-        let answer = writer.tell(line(word, 1, rectangle));
-        if answer.starts_with("reply 0 ") {
-            writer.tell("sum");
-            writer.tell("abort 1");
-            writer.start(0);
-            writer.tell("open 1");
-        }
+        sweep_alone(writer, rectangle);
+    }
+}
+
+/// A rectangle of job 1, which is open. Where it is done a new start makes room for another.
+pub fn sweep_alone(writer: &mut Writer, rectangle: Rectangle) {
+    let word = writer.random.pick(&["insall", "delall"]);
+    let answer = writer.tell(line(word, 1, rectangle));
+    if answer.starts_with("reply 0 ") {
+        writer.tell("sum");
+        writer.tell("abort 1");
+        writer.start(0);
+        writer.tell("open 1");
     }
 }
 

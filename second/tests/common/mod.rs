@@ -1,4 +1,5 @@
-//! A started session with its tables, and short names for the calls.
+//! A started session with its tables, and short names for the calls. Each of them compares the turns
+//! of its reply with those that are due, and gives the rest of it.
 
 #![allow(dead_code)]
 
@@ -6,16 +7,19 @@ pub mod cuts;
 pub mod expected;
 pub mod history;
 pub mod tables;
+pub mod talk;
+pub mod turns;
 
 use second::operation::Procedure;
 use second::rectangle::{Rectangle, Sweep};
-use second::reply::numbers;
+use second::reply::{numbers, sweep_numbers, Reply, Span};
 use second::rule::Rule;
 use second::service::{self, Address};
 use second::session::{Session, Tables};
 use second::state::State;
 use second::tile::Tile;
 use std::collections::BTreeSet;
+use turns::{span_of, turns_of};
 
 pub const A: Address = Address {
     zoom: 4,
@@ -51,6 +55,13 @@ pub fn held(holder: u8) -> (u8, u8, u8) {
     (6, 0, holder)
 }
 
+/// Number, answer and holder of a reply that carries no turns.
+pub fn without_turns(reply: Reply) -> (u8, u8, u8) {
+    let (number, answer, holder, turns) = numbers(reply);
+    assert_eq!(turns, 0);
+    (number, answer, holder)
+}
+
 pub fn tile(address: Address) -> Tile {
     address.tile().expect("a served address")
 }
@@ -74,7 +85,7 @@ impl Bench {
             *place = tile.key();
         }
         let (session, reply) = service::start(&mut tables, tiles.len() as u32, rule);
-        assert_eq!(numbers(reply), DONE);
+        assert_eq!(without_turns(reply), DONE);
         Bench { session, tables }
     }
 
@@ -95,12 +106,18 @@ impl Bench {
     }
 
     pub fn open(&mut self, job: u8) -> (u8, u8, u8) {
-        numbers(service::open(&mut self.session, &mut self.tables, job))
+        without_turns(service::open(&mut self.session, &mut self.tables, job))
     }
 
     pub fn operate(&mut self, job: u8, procedure: Procedure, address: Address) -> (u8, u8, u8) {
         let (session, tables) = (&mut self.session, &mut self.tables);
-        numbers(service::operate(session, tables, job, procedure, address))
+        let reply = service::operate(session, tables, job, procedure, address);
+        if reply.is_err() {
+            return without_turns(reply);
+        }
+        let (number, answer, holder, turns) = numbers(reply);
+        assert_eq!(turns, turns_of(address.zoom, address.column));
+        (number, answer, holder)
     }
 
     pub fn ins(&mut self, job: u8, address: Address) -> (u8, u8, u8) {
@@ -118,18 +135,19 @@ impl Bench {
     /// The number and the holder; a rectangle has no answer.
     pub fn sweep(&mut self, job: u8, sweep: Sweep, rectangle: Rectangle) -> (u8, u8) {
         let (session, tables) = (&mut self.session, &mut self.tables);
-        let (number, answer, holder) =
-            numbers(service::sweep(session, tables, job, sweep, rectangle));
-        assert_eq!(answer, 0);
+        let reply = service::sweep(session, tables, job, sweep, rectangle);
+        let (number, holder, turns) = sweep_numbers(reply);
+        let due = reply.map_or(Span::default(), |_| span_of(rectangle));
+        assert_eq!(turns, due);
         (number, holder)
     }
 
     pub fn commit(&mut self, job: u8) -> (u8, u8, u8) {
-        numbers(service::commit(&mut self.session, &mut self.tables, job))
+        without_turns(service::commit(&mut self.session, &mut self.tables, job))
     }
 
     pub fn abort(&mut self, job: u8) -> (u8, u8, u8) {
-        numbers(service::abort(&mut self.session, &mut self.tables, job))
+        without_turns(service::abort(&mut self.session, &mut self.tables, job))
     }
 
     pub fn is_sound(&self) -> bool {

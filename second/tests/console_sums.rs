@@ -1,0 +1,87 @@
+//! The sums of the console page, of everything and of a mended journal.
+
+mod common;
+
+use common::talk::{holds, talk};
+
+/// The sum of a list of numbers, by the console page.
+fn sum_of(numbers: &[u128]) -> u128 {
+    let modulus = 4_294_967_291;
+    numbers
+        .iter()
+        .fold(0, |sum, number| (sum * 31 + number % modulus) % modulus)
+}
+
+/// The answer to a mend that left two bytes out, with the sum of an output of so many bytes.
+fn mended_line(room: usize) -> String {
+    let mut output = vec![
+        1u128, 0, 1, 1, 2, 0, 7, 1, 1, 1, 0x40, 3, 0xC0, 5, 4, 0, 1, 1,
+    ];
+    output.resize(room, 255);
+    let sum = sum_of(&output);
+    format!("reply 0 length 18 left 2 aborted 1 count 0 sum {}", sum)
+}
+
+/// The answer to a mend that was refused.
+fn refused_line(number: u8, count: u32, room: usize) -> String {
+    let sum = sum_of(&vec![255; room]);
+    format!(
+        "reply {} length 0 left 0 aborted 0 count {} sum {}",
+        number, count, sum
+    )
+}
+
+#[test]
+fn mends_by_hand() {
+    // The journal has an open, an insert and half of a commit.
+    let input = "lend 2 3 60\nstart 0 1\nopen 1\nins 1 4 -1 5\nbyte 14 3\nbyte 15 0\ntile 0 0\n\
+                 mend 0 16 20\nmend 0 16 18\nmend 0 16 17\nmend 1 16 20\nmend 0 61 20\n\
+                 mend 0 16 66001\nmend 0 0 0\nmend 0 16 66000\n";
+    let due = [
+        mended_line(20),
+        mended_line(18),
+        refused_line(18, 0, 17),
+        refused_line(1, 1, 20),
+        "?".to_string(),
+        "?".to_string(),
+        "reply 0 length 0 left 0 aborted 0 count 0 sum 0".to_string(),
+        mended_line(66_000),
+    ];
+    let output = talk(input);
+    let lines: Vec<&str> = output.lines().skip(7).collect();
+    assert_eq!(lines, due);
+}
+
+#[test]
+fn a_mend_leaves_the_session_alone() {
+    let mut output = vec![5u128, 0, 1, 2, 1, 0, 1, 1];
+    output.extend([2, 0, 7, 1, 1, 1, 0x40, 3, 0xC0, 5, 4, 0, 1, 1]);
+    output.resize(60, 255);
+    holds(&format!(
+        "lend 2 3 60 => lent 2 3 60
+        start 0 2 => reply 0 answer 0 holder 0 turns 0
+        open 1 => reply 0 answer 0 holder 0 turns 0
+        ins 1 4 -1 5 => reply 0 answer 1 holder 0 turns -1
+        tile 0 0 => ok
+        mend 0 18 60 => reply 0 length 22 left 0 aborted 1 count 0 sum {}
+        commit 1 => reply 1 answer 0 holder 0 turns 0
+        tiles 0 => ok
+        operations 0 => ok
+        commit 1 => reply 0 answer 0 holder 0 turns 0
+        read 18 => commit 1 next 22",
+        sum_of(&output)
+    ));
+}
+
+#[test]
+fn the_sum_runs_over_everything() {
+    let input = "lend 2 1 2\nmark 63 1\nmark 0 1\ntiles 7\noperations 8\njournal 9\nrule 2\n\
+                 tile 0 4294967295\ntile 1 3\nentry 0 18446744073709551615\nbyte 1 255\nsum\n";
+    let mut numbers: Vec<u128> = vec![0; 64];
+    numbers[0] = 1;
+    numbers[63] = 1;
+    numbers.extend([7, 8, 9, 2]);
+    numbers.extend([4_294_967_295, 3, 18_446_744_073_709_551_615, 0, 255]);
+    let due = sum_of(&numbers);
+    assert!(talk(input).ends_with(&format!("ok\nsum {}\n", due)));
+}
