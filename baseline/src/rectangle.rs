@@ -45,8 +45,8 @@ impl Rectangle {
 
     /// The keys of its tiles, if it is on a level and has each tile once, and not too many.
     pub fn list(self) -> Result<Listed, Refusal> {
-        let corner = self.corner(self.west, self.top)?;
-        self.corner(self.east, self.bottom)?;
+        let (corner, first) = self.corner(self.west, self.top)?;
+        let (_, last) = self.corner(self.east, self.bottom)?;
         let (width, height) = (extent(self.west, self.east), extent(self.top, self.bottom));
         let is_wider = width > 1 << self.zoom;
         if width < 1 || height < 1 || is_wider || width * height > MOST_LISTED as i64 {
@@ -56,13 +56,14 @@ impl Rectangle {
             keys: self.addresses().filter_map(Address::key).collect(),
             corner: Address::of_key(corner),
             height: height as i32,
+            turns: [first, last],
         })
     }
 
-    fn corner(self, column: i32, row: i32) -> Result<u32, Refusal> {
+    fn corner(self, column: i32, row: i32) -> Result<(u32, i32), Refusal> {
         let zoom = self.zoom;
-        let key = Address { zoom, column, row }.key();
-        key.ok_or(Refusal::OutOfRange)
+        let found = Address { zoom, column, row }.key_and_turns();
+        found.ok_or(Refusal::OutOfRange)
     }
 }
 
@@ -71,9 +72,10 @@ fn extent(first: i32, last: i32) -> i64 {
     i64::from(last) - i64::from(first) + 1
 }
 
-/// The keys of a rectangle in their order.
+/// The keys of a rectangle in their order, and the turns of its first column and of its last.
 pub struct Listed {
     pub keys: Vec<u32>,
+    pub turns: [i32; 2],
     corner: Address,
     height: i32,
 }

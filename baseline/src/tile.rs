@@ -24,6 +24,11 @@ impl Address {
 
     /// The key, with the column taken round the world; none if the zoom or the row is out of range.
     pub fn key(self) -> Option<u32> {
+        self.key_and_turns().map(|(key, _)| key)
+    }
+
+    /// The same, with how often the column goes round, below 0 westward.
+    pub fn key_and_turns(self) -> Option<(u32, i32)> {
         let zoom = u32::from(self.zoom);
         if !ZOOMS.contains(&zoom) {
             return None;
@@ -33,7 +38,8 @@ impl Address {
             return None;
         }
         let column = self.column.rem_euclid(side) as u32;
-        Some(zoom << ZOOM_SHIFT | column << COLUMN_SHIFT | self.row as u32)
+        let key = zoom << ZOOM_SHIFT | column << COLUMN_SHIFT | self.row as u32;
+        Some((key, self.column.div_euclid(side)))
     }
 }
 

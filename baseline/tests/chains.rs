@@ -103,7 +103,8 @@ fn an_abort_brings_replaced_tiles_back() {
         let mut pack = sort.pack(Rule::Together, 5);
         employ_idle_job(&mut pack, 1_024);
         let before = pack.tiles.clone();
-        assert_eq!(pack.call(Check::Filter, Call::Abort(IDLE_JOB)), DONE);
+        let aborted = pack.call(Check::Filter, Call::Abort(IDLE_JOB));
+        assert_eq!(answer(aborted), DONE);
         assert_eq!(pack.session.operations, 0);
         assert!(pack.tiles == before && is_sound(&mut pack));
     }

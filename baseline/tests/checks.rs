@@ -160,7 +160,7 @@ fn replies_of_histories(random: &mut Random, rule: Rule) -> [usize; 14] {
         assert_eq!(case.call(start), DONE);
         for _ in 0..160 {
             let call = any_call(random, &keys, 5);
-            let reply = case.call(call);
+            let reply = case.reply(call);
             told[numbers(reply)[0] as usize] += 1;
             assert!(is_sound(&mut case.world), "after {call:?}");
         }

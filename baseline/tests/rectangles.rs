@@ -4,7 +4,7 @@ mod common;
 
 use baseline::entry::{job, key};
 use baseline::rectangle::{Change, Rectangle, MOST_LISTED};
-use baseline::reply::{numbers, Refusal, Reply};
+use baseline::reply::Refusal;
 use baseline::rule::Rule;
 use baseline::tile::Address;
 use baseline::workload::packs::IDLE_JOB;
@@ -28,11 +28,11 @@ const fn rectangle(zoom: u8, west: i32, east: i32, top: i32, bottom: i32) -> Rec
     }
 }
 
-fn put(case: &mut Case, job: u8, change: Change, rectangle: Rectangle) -> Reply {
+fn put(case: &mut Case, job: u8, change: Change, rectangle: Rectangle) -> Answer {
     case.call(Call::Rectangle(job, change, rectangle))
 }
 
-fn number_on_ample(rectangle: Rectangle) -> u64 {
+fn number_on_ample(rectangle: Rectangle) -> i64 {
     let told = Rule::ALL.map(|rule| {
         let mut case = Case::by(rule, 4_096, &[]);
         let reply = put(&mut case, 1, Change::Insert, rectangle);
@@ -42,7 +42,7 @@ fn number_on_ample(rectangle: Rectangle) -> u64 {
             0
         };
         assert_eq!(case.world.session.tiles, tiles);
-        numbers(reply)
+        numbers_of(reply)
     });
     assert_eq!(told[0], told[1]);
     told[0][0]
@@ -58,7 +58,7 @@ fn numbers_in_order() {
         case.world.journal.truncate(case.world.session.journal + 8);
         case.world.tiles[0] = 7;
         let told =
-            |case: &mut Case, job, rectangle| numbers(put(case, job, Change::Insert, rectangle));
+            |case: &mut Case, job, rectangle| numbers_of(put(case, job, Change::Insert, rectangle));
         let nowhere = rectangle(3, 0, -1, 1, 0);
         assert_eq!(told(&mut case, 64, nowhere), [1, 0, 0]);
         case.world.tiles[0] = 0;
@@ -231,7 +231,7 @@ fn rooms_are_exact_on_full_tables() {
             let told = |lacking| {
                 let world = pack.clone().without(lacking);
                 let reply = put(&mut Case { world }, IDLE_JOB, change, rectangle);
-                numbers(reply)[0]
+                numbers_of(reply)[0]
             };
             assert_eq!(told([0, 0, 0]), 0);
             assert_eq!(told([1, 0, 0]), without_tile_place);

@@ -183,7 +183,7 @@ fn a_replay_is_the_calls_that_wrote_the_journal() {
         let mut world = start.clone();
         let rule = Rule::ALL[at % 2];
         let started = world.call(Check::Filter, Call::Start(start.session.tiles, rule));
-        assert_eq!(started, DONE);
+        assert_eq!(answer(started), DONE);
         for _ in 0..80 {
             let call = any_call(&mut random, &keys, 5);
             let before = world.clone();

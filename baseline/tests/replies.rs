@@ -4,7 +4,7 @@
 mod common;
 
 use baseline::journal::Procedure;
-use baseline::reply::{numbers, Refusal};
+use baseline::reply::Refusal;
 use baseline::rule::Rule;
 use baseline::tile::Address;
 use baseline::workload::world::Call;
@@ -25,7 +25,7 @@ fn numbers_of_an_operation_in_order() {
     case.world.journal.truncate(case.world.session.journal + 8);
     case.world.tiles[0] = 7;
     let told = |case: &mut Case, job, address| {
-        numbers(case.call(Call::Operation(job, Procedure::Insert, address)))
+        numbers_of(case.call(Call::Operation(job, Procedure::Insert, address)))
     };
     assert_eq!(told(&mut case, 64, NOWHERE), [1, 0, 0]);
     case.world.tiles[0] = 0;
@@ -45,7 +45,7 @@ fn numbers_of_an_operation_in_order() {
 #[test]
 fn numbers_of_the_other_calls_in_order() {
     let mut case = Case::ample(&[]);
-    let told = |case: &mut Case, call| numbers(case.call(call))[0];
+    let told = |case: &mut Case, call| numbers_of(case.call(call))[0];
     case.world.session.operations = 1;
     for call in [Call::Open(64), Call::Commit(64), Call::Abort(64)] {
         assert_eq!(told(&mut case, call), 1);

@@ -3,7 +3,7 @@
 mod common;
 
 use baseline::rectangle::{Change, Rectangle};
-use baseline::reply::{numbers, Refusal, Reply};
+use baseline::reply::{numbers, Done, Refusal, Reply};
 use baseline::rule::Rule;
 use baseline::session::{MOST_JOURNAL, MOST_OPERATIONS, MOST_TILES};
 use baseline::soundness::Check;
@@ -29,12 +29,18 @@ impl Asked {
         addresses.map(move |address| Call::Operation(job, change.procedure(), address))
     }
 
-    /// The first refusal of its operations, one after another, which the world is left with.
+    /// The first refusal of its operations, one after another, which the world is left with; or
+    /// the turns of the first of them, which is the most western, and of the last.
     fn written_out(self, world: &mut World) -> Reply {
-        for call in self.operations() {
-            world.call(Check::Filter, call)?;
-        }
-        DONE
+        let turns = self
+            .operations()
+            .map(|call| Ok(world.call(Check::Filter, call)?.turns))
+            .collect::<Result<Vec<i32>, Refusal>>()?;
+        Ok(Done {
+            answer: false,
+            turns: turns[0],
+            last: turns[turns.len() - 1],
+        })
     }
 
     /// The first held tile's reply, on the tables as they stand.
@@ -62,7 +68,7 @@ impl Asked {
             room(&mut ample, world);
             self.written_out(&mut ample)?;
         }
-        DONE
+        self.written_out(&mut widened(world))
     }
 }
 
@@ -78,7 +84,7 @@ fn widened(world: &World) -> World {
 /// Makes the call, and counts its number.
 fn ask(case: &mut Case, asked: Asked, told: &mut [usize; 14]) {
     let before = case.world.clone();
-    let reply = case.call(Call::Rectangle(asked.job, asked.change, asked.rectangle));
+    let reply = case.reply(Call::Rectangle(asked.job, asked.change, asked.rectangle));
     let number = numbers(reply)[0];
     told[number as usize] += 1;
     if [2, 3, 5, 13].contains(&number) {

@@ -2,6 +2,7 @@
 
 use super::random::Random;
 use super::rectangles::any_rectangle;
+use super::turns::{off_the_level, turned};
 use super::world::{Call, World};
 use crate::entry::{job, key};
 use crate::journal::Procedure;
@@ -25,7 +26,8 @@ pub fn small_world(random: &mut Random, keys: &[u32]) -> World {
     world
 }
 
-/// Any call, on one of these tiles or now and then on an address that has no key.
+/// Any call, on one of these tiles, often some turns away, or now and then on an address that has
+/// no key.
 pub fn any_call(random: &mut Random, keys: &[u32], jobs: usize) -> Call {
     let job = match random.below(24) {
         0 => random.below(256),
@@ -42,11 +44,11 @@ pub fn any_call(random: &mut Random, keys: &[u32], jobs: usize) -> Call {
 
 fn any_address(random: &mut Random, keys: &[u32]) -> Address {
     let mut address = Address::of_key(random.pick(keys));
+    address.column = turned(random, address.zoom, address.column);
     match random.below(32) {
         0 => address.zoom = random.below(17) as u8,
         1 => address.row = [-1, 1 << address.zoom, i32::MIN, i32::MAX][random.below(4)],
-        2 => address.column = random.number() as i32,
-        3..=9 => address.column -= 1 << address.zoom,
+        2 => address.column = off_the_level(random, address.zoom),
         _ => {}
     }
     address

@@ -6,4 +6,5 @@ pub mod journals;
 pub mod packs;
 pub mod random;
 pub mod rectangles;
+mod turns;
 pub mod world;

@@ -2,6 +2,7 @@
 
 use super::packs::Sort;
 use super::random::Random;
+use super::turns::turned;
 use super::world::World;
 use crate::entry::key;
 use crate::journal::{JOB_RECORD, OPERATION_RECORD};
@@ -10,16 +11,19 @@ use crate::rule::Rule;
 use crate::tile::Address;
 use std::collections::HashSet;
 
-/// A small one near one of these tiles, or now and then one at a bound.
+/// A small one near one of these tiles or, beside it, near the seam, and often some turns away; or
+/// now and then one at a bound.
 pub fn any_rectangle(random: &mut Random, keys: &[u32]) -> Rectangle {
     let Address { zoom, column, row } = Address::of_key(random.pick(keys));
+    // the last columns of two turns: from one of them on, a rectangle goes into the next turn
+    let column = random.pick(&[column, column, column, -1, (1 << zoom) - 1]);
+    let column = turned(random, zoom, column);
     let mut below = |bound| random.below(bound) as i32;
-    let turned = (below(3) - 1) << zoom;
-    let (west, top) = (column - below(2) + turned, row - below(2));
+    let (west, top) = (column.saturating_sub(below(2)), row - below(2));
     let rectangle = Rectangle {
         zoom,
         west,
-        east: west + below(3),
+        east: west.saturating_add(below(3)),
         top,
         bottom: top + below(3),
     };
@@ -31,26 +35,34 @@ pub fn any_rectangle(random: &mut Random, keys: &[u32]) -> Rectangle {
 }
 
 fn at_a_bound(random: &mut Random, of: Rectangle) -> Rectangle {
-    let (zoom, west, top) = (random.below(17) as u8, of.west, of.top);
+    let (zoom, top, side) = (random.below(17) as u8, of.top, 1 << of.zoom);
     let (first, last) = (i32::MIN, i32::MAX);
     let more = random.below(2) as i32;
     let bounds = [
         Rectangle { zoom, ..of },
         Rectangle { top: -1, ..of },
-        with_rows(of, top, 1 << of.zoom),
+        with_rows(of, top, side),
         with_rows(of, first, last),
         with_rows(of, top, top - 1),
-        with_columns(of, west, west - 1),
+        with_width(of, 0),
         with_columns(of, first, last),
         with_columns(of, first, first + more),
         with_columns(of, last - more, last),
+        // out of the first turn that 32 bits hold, and into the last
+        with_columns(of, first + side - 1, first + side),
+        with_columns(of, last - side, last - side + 1),
         // 256 and 257 tiles, in one column and in one row
-        with_rows(with_columns(of, west, west), 0, 255 + more),
-        with_rows(with_columns(of, west, west + 255 + more), top, top),
+        with_rows(with_width(of, 1), 0, 255 + more),
+        with_rows(with_width(of, 256 + more), top, top),
         // as wide as the level and one wider
-        with_rows(with_columns(level_of(4), west, west + 15 + more), 14, 15),
+        with_rows(with_width(Rectangle { zoom: 4, ..of }, 16 + more), 14, 15),
     ];
     random.pick(&bounds)
+}
+
+/// From its west column on, as far as 32 bits go.
+fn with_width(of: Rectangle, width: i32) -> Rectangle {
+    with_columns(of, of.west, of.west.saturating_add(width - 1))
 }
 
 fn with_columns(of: Rectangle, west: i32, east: i32) -> Rectangle {

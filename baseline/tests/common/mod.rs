@@ -2,7 +2,7 @@
 #![allow(dead_code)]
 
 use baseline::journal::Procedure;
-use baseline::reply::{Refusal, Reply};
+use baseline::reply::{numbers, Done, Refusal, Reply};
 use baseline::rule::Rule;
 use baseline::session::JOBS;
 use baseline::soundness::Check;
@@ -25,11 +25,28 @@ pub const C: Address = Address {
     row: 0,
 };
 
-pub const DONE: Reply = Ok(false);
-pub const OK: Reply = Ok(true);
-pub const FAIL: Reply = Ok(false);
+/// A reply without its turns, which turns.rs looks at.
+pub type Answer = Result<bool, Refusal>;
 
-pub fn held(job: u8) -> Reply {
+pub const DONE: Answer = Ok(false);
+pub const OK: Answer = Ok(true);
+pub const FAIL: Answer = Ok(false);
+
+pub fn answer(reply: Reply) -> Answer {
+    reply.map(|done| done.answer)
+}
+
+/// The number, the answer and the holder.
+pub fn numbers_of(answer: Answer) -> [i64; 3] {
+    let without_turns = |answer| Done {
+        answer,
+        ..Done::default()
+    };
+    let [number, answer, holder, ..] = numbers(answer.map(without_turns));
+    [number, answer, holder]
+}
+
+pub fn held(job: u8) -> Answer {
     Err(Refusal::Held(job))
 }
 
@@ -58,8 +75,12 @@ impl Case {
         case
     }
 
+    pub fn call(&mut self, call: Call) -> Answer {
+        answer(self.reply(call))
+    }
+
     /// Makes a call with every check; they all reply the same and leave the same.
-    pub fn call(&mut self, call: Call) -> Reply {
+    pub fn reply(&mut self, call: Call) -> Reply {
         let before = self.world.clone();
         let reply = self.world.call(Check::Filter, call);
         for check in Check::ALL {
@@ -73,23 +94,23 @@ impl Case {
         reply
     }
 
-    pub fn insert(&mut self, job: u8, address: Address) -> Reply {
+    pub fn insert(&mut self, job: u8, address: Address) -> Answer {
         self.call(Call::Operation(job, Procedure::Insert, address))
     }
 
-    pub fn delete(&mut self, job: u8, address: Address) -> Reply {
+    pub fn delete(&mut self, job: u8, address: Address) -> Answer {
         self.call(Call::Operation(job, Procedure::Delete, address))
     }
 
-    pub fn member(&mut self, job: u8, address: Address) -> Reply {
+    pub fn member(&mut self, job: u8, address: Address) -> Answer {
         self.call(Call::Operation(job, Procedure::Member, address))
     }
 
-    pub fn commit(&mut self, job: u8) -> Reply {
+    pub fn commit(&mut self, job: u8) -> Answer {
         self.call(Call::Commit(job))
     }
 
-    pub fn abort(&mut self, job: u8) -> Reply {
+    pub fn abort(&mut self, job: u8) -> Answer {
         self.call(Call::Abort(job))
     }
 
@@ -112,7 +133,7 @@ pub fn is_sound(world: &mut World) -> bool {
 pub fn ended(mut world: World) -> World {
     for job in 0..JOBS as u8 {
         if world.session.is_open(job) {
-            assert_eq!(world.call(Check::Filter, Call::Abort(job)), DONE);
+            assert_eq!(answer(world.call(Check::Filter, Call::Abort(job))), DONE);
         }
     }
     world

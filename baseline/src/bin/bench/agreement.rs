@@ -12,6 +12,7 @@ use baseline::workload::packs::{Sort, IDLE_JOB};
 use baseline::workload::random::Random;
 use baseline::workload::rectangles::roomy_pack;
 use baseline::workload::world::{Call, World};
+use std::fmt::Debug;
 
 type Agreed = Result<(), String>;
 
@@ -47,7 +48,7 @@ fn compare_call(census: &mut Census, world: &mut World, call: Call) -> Agreed {
         Call::Rectangle(..) => (Compared::Rectangle, before.session.rule),
         _ => (Compared::Call, before.session.rule),
     };
-    census.count(compared, rule, expected[0]);
+    census.count(compared, rule, expected[0].unsigned_abs());
     for way in &WAYS[1..] {
         let mut other = before.clone();
         let reply = way.call(&mut other, call);
@@ -79,7 +80,12 @@ fn compare_replay(census: &mut Census, journal: &[u8], start: &World) -> Agreed 
     Ok(())
 }
 
-fn compare(way: Way, what: &str, expected: ([u64; 4], &World), got: ([u64; 4], &World)) -> Agreed {
+fn compare<T: PartialEq + Debug>(
+    way: Way,
+    what: &str,
+    expected: (T, &World),
+    got: (T, &World),
+) -> Agreed {
     let (one, other) = (WAYS[0].name(), way.name());
     if expected.0 != got.0 {
         let replies = format!("told {:?} and {:?}", expected.0, got.0);

@@ -6,8 +6,14 @@ use baseline::session::Session;
 use baseline::tile::Address;
 use baseline::workload::world::{Call, World};
 
-/// Number, answer and holder; of a replay number, offset, jobs undone and tiles left.
-pub type Numbers = [u64; 4];
+/// Number, answer, holder and turns of a reply.
+pub type Told = [i64; 5];
+
+/// The same, as it comes from a proved call.
+type Numbers = [i32; 5];
+
+/// Number, offset, jobs undone and tiles left of a replay.
+pub type Rebuilt = [u64; 4];
 
 type Marks = [bool; 64];
 
@@ -117,7 +123,7 @@ extern "C" {
         count: usize,
         operations: *mut u64,
         operation_places: usize,
-        reply: *mut Numbers,
+        reply: *mut Rebuilt,
     );
 }
 
@@ -175,8 +181,8 @@ macro_rules! on_session {
     };
 }
 
-pub fn call(world: &mut World, call: Call) -> Numbers {
-    let mut reply = [0; 4];
+pub fn call(world: &mut World, call: Call) -> Told {
+    let mut reply: Numbers = [0; 5];
     let mut marks = world.session.marks;
     let mut parts = parts_of(&world.session);
     let (m, p, r) = (&mut marks, &mut parts, &mut reply);
@@ -209,10 +215,10 @@ pub fn call(world: &mut World, call: Call) -> Numbers {
         Call::Abort(job) => on_session!(bench_abort(m, p, world, job, r)),
     }
     world.session = session_of(marks, parts);
-    reply
+    reply.map(i64::from)
 }
 
-pub fn replay(journal: &[u8], tiles: &mut [u32], count: usize, operations: &mut [u64]) -> Numbers {
+pub fn replay(journal: &[u8], tiles: &mut [u32], count: usize, operations: &mut [u64]) -> Rebuilt {
     let mut reply = [0; 4];
     // SAFETY: each pointer is to as many elements as its length says, and no two overlap
     unsafe {

@@ -1,6 +1,6 @@
 //! Every way to make a call.
 
-use crate::proved::{self, Numbers};
+use crate::proved::{self, Rebuilt, Told};
 use baseline::replay;
 use baseline::reply;
 use baseline::soundness::Check;
@@ -38,18 +38,15 @@ impl Way {
         }
     }
 
-    pub fn call(self, world: &mut World, call: Call) -> Numbers {
+    pub fn call(self, world: &mut World, call: Call) -> Told {
         match self {
-            Way::Rust(check) => {
-                let [number, answer, holder] = reply::numbers(world.call(check, call));
-                [number, answer, holder, 0]
-            }
+            Way::Rust(check) => reply::numbers(world.call(check, call)),
             Way::Proved => proved::call(world, call),
         }
     }
 
     /// Replays a journal onto the tiles of a world, with its count and its operations table.
-    pub fn replay(self, journal: &[u8], world: &mut World) -> Numbers {
+    pub fn replay(self, journal: &[u8], world: &mut World) -> Rebuilt {
         let count = world.session.tiles;
         let (tiles, operations) = (&mut world.tiles, &mut world.operations);
         match self {
