@@ -188,7 +188,14 @@ pub fn operation_decision(
     match address::locate(address) {
         Located::Refused => Decision::Refuse(Reply::OutOfRange),
         Located::Key { key, turns } => judge_keyed(
-            session, tiles, operations, journal, job, procedure, key, turns,
+            session,
+            tiles,
+            operations,
+            journal,
+            job,
+            procedure,
+            key,
+            turns,
         ),
     }
 }

@@ -76,7 +76,14 @@ pub fn operation(
     ) {
         Decision::Refuse(reply) => Outcome { reply, session },
         Decision::Perform { spot, turns } => jobs::carry_out(
-            session, tiles, operations, journal, job, procedure, spot, turns,
+            session,
+            tiles,
+            operations,
+            journal,
+            job,
+            procedure,
+            spot,
+            turns,
         ),
     }
 }

@@ -184,7 +184,16 @@ fn carry_shaped(
         Shape::Fine { corner, height, n } => {
             let procedure = procedure_for(change);
             let done = carry_rectangle(
-                session, tiles, operations, journal, job, procedure, r, corner, height, n,
+                session,
+                tiles,
+                operations,
+                journal,
+                job,
+                procedure,
+                r,
+                corner,
+                height,
+                n,
             );
             let reply = done.reply;
             let session = done.session;

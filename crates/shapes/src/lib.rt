@@ -110,9 +110,17 @@ pub fn shape_of(r: Rectangle) -> Shape
     let bottom = r.bottom;
     match corner_key(zoom, west, top) {
         Located::Refused => Shape::OutOfRange,
-        Located::Key { key: corner, turns: _ } => match corner_key(zoom, east, bottom) {
+        Located::Key {
+            key: corner,
+            turns: _,
+        } => match corner_key(zoom, east, bottom) {
             Located::Refused => Shape::OutOfRange,
-            Located::Key { key: _, turns: _ } => measured(zoom, corner, span(west, east), span(top, bottom)),
+            Located::Key { key: _, turns: _ } => measured(
+                zoom,
+                corner,
+                span(west, east),
+                span(top, bottom),
+            ),
         },
     }
 }

@@ -8,6 +8,7 @@ use Prim.Native.Nat.{_^_, _≤_, suc, zero, ℕ}
 use native.Mathlib.Nat.{mul-le-mul}
 use native.Mathlib.Omega.{arith}
 use lib.Dec.{eqb}
+use lib.IntN.{pos, ℤ}
 use lib.ListN.{length}
 use borrow.Author.Tests.{le-ltb, ltb-false}
 use Rattle.lists.specs.Lists.{All}
@@ -48,10 +49,14 @@ module _ (w : World) (job : ℕ) (change : Change) (r : Rectangle) where
   unfolding rectangleCall
   tells-turns = decided-tells (rectangleRefusals w job p r) (covered r) (numbered-rectangle w job p r) turnless refl
     where
+      zeros : (_≡_ {A = ℤ} (pos 0) (pos 0)) × (_≡_ {A = ℤ} (pos 0) (pos 0))
+      zeros = (refl, refl)
+
+      held : Option ℕ
+      held = firstHeld (w .session .rule) (state w .book) job p (keys (listed r))
+
       turnless : Turnless (rectangleRefusals w job p r)
-      turnless =
-          ((refl, refl), ((refl, refl), ((refl, refl), ((refl, refl), ((refl, refl),
-          (held-turnless (firstHeld (w .session .rule) (state w .book) job p (keys (listed r))), ((refl, refl), ((refl, refl), ((refl, refl), tt)))))))))
+      turnless = (zeros, (zeros, (zeros, (zeros, (zeros, (held-turnless held, (zeros, (zeros, (zeros, tt)))))))))
 
   held-among : (o : Option ℕ) → member (refuseHeld o .says .number) refusingRectangle ≡ true
   held-among none = refl
