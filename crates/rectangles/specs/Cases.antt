@@ -18,18 +18,44 @@ use Rattle.service.specs.Told.{bare}
 use Rattle.service.specs.World.{World, usedTiles}
 use Rattle.service.specs.declared.Told.{Told}
 use Rattle.rectangles.specs.Claims.{Move, moved, plain, rectangle}
-use Rattle.rectangles.specs.Rectangles.{keys, listed, misshapen, outOfRange, rectangleCall}
+use Rattle.rectangles.specs.Rectangles.{keys, listed, misnamed, misshapen, outOfRange, rectangleCall}
 use Rattle.rectangles.specs.declared.Change.the-variants.{Delete, Insert}
 use Rattle.rectangles.specs.declared.Rectangle.{Rectangle}
 
+-- by an edition, and with rows counted from the north
+abbrev rectOf : ℕ → ℕ → ℤ → ℤ → ℤ → ℤ → Rectangle
+rectOf edition z west east top bottom = record { edition = edition; zoom = z; west = west; east = east; top = top; bottom = bottom }
+
 abbrev rect : ℕ → ℤ → ℤ → ℤ → ℤ → Rectangle
-rect z west east top bottom = record { zoom = z; west = west; east = east; top = top; bottom = bottom }
+rect = rectOf 2
 
 -- across 180 degrees: columns 14, 15, 0 and 1 of level 4, rows 5 and 6
 seam-list : map (λ k. columnIn k ∷ rowIn k ∷ []) (keys (listed (rect 4 (negsuc 1) (pos 1) (pos 5) (pos 6))))
     ≡ (14 ∷ 5 ∷ []) ∷ (14 ∷ 6 ∷ []) ∷ (15 ∷ 5 ∷ []) ∷ (15 ∷ 6 ∷ []) ∷ (0 ∷ 5 ∷ []) ∷ (0 ∷ 6 ∷ []) ∷ (1 ∷ 5 ∷ []) ∷ (1 ∷ 6 ∷ []) ∷ []
 unfolding keyOf
 seam-list = refl
+
+-- and the same list by edition 1, whose top row is the larger one
+south-list : keys (listed (rectOf 1 4 (negsuc 1) (pos 1) (pos 10) (pos 9))) ≡ keys (listed (rect 4 (negsuc 1) (pos 1) (pos 5) (pos 6)))
+unfolding keyOf
+south-list = refl
+
+-- 14, 5 and 13 by edition 1: the whole level, its rows the wrong way round, one row too far, the least row; and by no edition
+south-shapes : map (λ r. misnamed r ∷ outOfRange r ∷ misshapen r ∷ [])
+    (rectOf 1 4 (pos 0) (pos 15) (pos 15) (pos 0)
+    ∷ rectOf 1 4 (pos 0) (pos 15) (pos 0) (pos 15)
+    ∷ rectOf 1 4 (pos 0) (pos 0) (pos 16) (pos 0)
+    ∷ rectOf 1 4 (pos 0) (pos 0) (pos 0) (negsuc 2147483647)
+    ∷ rectOf 0 4 (pos 0) (pos 0) (pos 0) (pos 0)
+    ∷ [])
+    ≡ (false ∷ false ∷ false ∷ [])
+    ∷ (false ∷ false ∷ true ∷ [])
+    ∷ (false ∷ true ∷ false ∷ [])
+    ∷ (false ∷ true ∷ true ∷ [])
+    ∷ (true ∷ true ∷ false ∷ [])
+    ∷ []
+unfolding keyOf
+south-shapes = refl
 
 -- 5 and 13, at both sides of each bound
 shapes : map (λ r. outOfRange r ∷ misshapen r ∷ [])
@@ -130,6 +156,8 @@ plays =
     ∷ play Alone [] 8 8 99 (insertA 1 ∷ insertB 2 ∷ rectangle 2 Delete seam ∷ []) (okA ∷ okB ∷ heldBy1 ∷ []) (B ∷ A ∷ [])
     ∷ play Alone [] 8 8 99 (rectangle 1 Insert (rect 4 (pos 1) (pos 0) (pos 0) (pos 16)) ∷ rectangle 1 Insert (rect 4 (pos 1) (pos 0) (pos 0) (pos 0)) ∷ []) (bare 5 ∷ bare 13 ∷ []) []
     ∷ play Alone [] 8 8 99 (rectangle 1 Insert (rect 4 (pos 70015) (pos 70016) (pos 0) (pos 0)) ∷ []) (covering (pos 4375) (pos 4376) ∷ []) (C ∷ 1073987584 ∷ [])
+    ∷ play Alone [] 8 8 99 (rectangle 1 Insert (rectOf 3 3 (pos 1) (pos 0) (pos 0) (pos 0)) ∷ rectangle 1 Insert (rectOf 1 4 (pos 0) (pos 0) (pos 9) (pos 10)) ∷ []) (bare 14 ∷ bare 13 ∷ []) []
+    ∷ play Alone [] 8 8 99 (rectangle 1 Insert (rectOf 1 4 (negsuc 0) (pos 0) (pos 10) (pos 10)) ∷ rectangle 2 Delete seam ∷ []) (whole ∷ heldBy1 ∷ []) (B ∷ A ∷ [])
     ∷ play Alone [] 8 8 99 (rectangle 1 Delete (rect 4 (negsuc 16) (negsuc 15) (pos 0) (pos 0)) ∷ []) (covering (negsuc 1) (negsuc 0) ∷ []) []
     ∷ []
 

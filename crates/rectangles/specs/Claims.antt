@@ -21,10 +21,10 @@ use Rattle.service.specs.Calls.{startCall}
 use Rattle.service.specs.History.{Call, call, operating}
 use Rattle.service.specs.Journal.{encode, recordOf}
 use Rattle.service.specs.Limits.{operationSize, shortSize}
-use Rattle.service.specs.Tile.{keyAt}
+use Rattle.service.specs.Tile.{isEdition, keyAt}
 use Rattle.service.specs.World.{Reported, World}
 use Rattle.service.specs.declared.Address.{Address}
-use Rattle.rectangles.specs.Rectangles.{height, keyFor, listed, misshapen, mostInRectangle, outOfRange, procedureFor, rectangleCall, width}
+use Rattle.rectangles.specs.Rectangles.{bottomRow, height, keyFor, listed, misshapen, mostInRectangle, outOfRange, procedureFor, rectangleCall, topRow, width}
 use Rattle.rectangles.specs.declared.Change.{Change}
 use Rattle.rectangles.specs.declared.Rectangle.{Rectangle}
 
@@ -38,19 +38,20 @@ abbrev pub leftBy : World → List Call → World
 leftBy w [] = w
 leftBy w (c ∷ cs) = leftBy (call w c .after) cs
 
--- neither 5 nor 13 refuses the rectangle
+-- neither 14 nor 5 nor 13 refuses the rectangle
 pub record Shaped (r : Rectangle) : Type 0 where
+  pub of-edition : isEdition (r .edition) ≡ true
   pub in-range : outOfRange r ≡ false
   pub well-formed : misshapen r ≡ false
 
--- k is the key of a tile from west to east and from top to bottom
+-- k is the key of a tile from west to east and from top to bottom, in rows counted from the north
 pub record Inside (r : Rectangle) (k : ℕ) : Type 0 where
   pub column : ℤ
   pub row : ℤ
   pub from-west : r .west ≤ℤ column
   pub to-east : column ≤ℤ r .east
-  pub from-top : r .top ≤ℤ row
-  pub to-bottom : row ≤ℤ r .bottom
+  pub from-top : topRow r ≤ℤ row
+  pub to-bottom : row ≤ℤ bottomRow r
   pub has-key : keyAt (r .zoom) column row ≡ some k
 
 -- the tile a stands west of b, or in its column and above it
@@ -99,11 +100,11 @@ pub record FirstHeld (rule : Rule) (m : Book) (job : ℕ) (p : Procedure) (ks : 
 
 -- the numbers that refuse a rectangle, in the order in which they are judged
 abbrev pub refusingRectangle : List ℕ
-refusingRectangle = 1 ∷ 2 ∷ 3 ∷ 5 ∷ 13 ∷ 6 ∷ 7 ∷ 8 ∷ 9 ∷ []
+refusingRectangle = 1 ∷ 2 ∷ 3 ∷ 14 ∷ 5 ∷ 13 ∷ 6 ∷ 7 ∷ 8 ∷ 9 ∷ []
 
 -- 13 in words
 abbrev pub Misshapen : Rectangle → Type 0
-Misshapen r = (r .east <ℤ r .west) ⊎ ((r .bottom <ℤ r .top) ⊎ ((2 ^ (r .zoom) < width r) ⊎ (mostInRectangle < width r * height r)))
+Misshapen r = (r .east <ℤ r .west) ⊎ ((bottomRow r <ℤ topRow r) ⊎ ((2 ^ (r .zoom) < width r) ⊎ (mostInRectangle < width r * height r)))
 
 -- CALLS FROM A START BY A RULE, WITH RECTANGLES AMONG THEM
 pub data Move : Type 0 where

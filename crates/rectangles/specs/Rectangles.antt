@@ -1,5 +1,5 @@
 -- Rectangles of tiles, and the call that inserts or deletes all tiles of one
-use mathlib.Core.Bool.{Bool, _||_, cond}
+use mathlib.Core.Bool.{Bool, _||_, cond, not}
 use mathlib.Core.List.{List, [], _++_, _∷_, map}
 use mathlib.Core.Option.{Option, none, some}
 use Prim.Native.Nat.{_%_, _*_, _+_, _-_, _/_, _^_, suc, zero, ℕ}
@@ -15,8 +15,8 @@ use Rattle.strict.specs.declared.Procedure.{Procedure}
 use Rattle.strict.specs.declared.Rule.{Rule}
 use Rattle.service.specs.Admission.{openMarks}
 use Rattle.service.specs.Calls.{carried, endRefusals}
-use Rattle.service.specs.Limits.{operationSize, shortSize}
-use Rattle.service.specs.Tile.{addressCall, turnsOf}
+use Rattle.service.specs.Limits.{northEdition, operationSize, shortSize}
+use Rattle.service.specs.Tile.{addressCall, addressOf, isEdition, northRow, turnsOf}
 use Rattle.service.specs.Told.{Refusal, decided, refuse, refuseHeld}
 use Rattle.service.specs.World.{Reported, World, freeBytes, state}
 use Rattle.service.specs.declared.Address.{Address}
@@ -36,8 +36,15 @@ span (negsuc a) (negsuc b) = suc a - b
 abbrev pub width : Rectangle → ℕ
 width r = span (r .west) (r .east)
 
+-- its rows, counted from the north
+abbrev pub topRow : Rectangle → ℤ
+topRow r = northRow (r .edition) (r .zoom) (r .top)
+
+abbrev pub bottomRow : Rectangle → ℤ
+bottomRow r = northRow (r .edition) (r .zoom) (r .bottom)
+
 abbrev pub height : Rectangle → ℕ
-height r = span (r .top) (r .bottom)
+height r = span (topRow r) (bottomRow r)
 
 abbrev pub area : Rectangle → ℕ
 area r = width r * height r
@@ -49,7 +56,7 @@ sequence f i (suc n) = f i ∷ sequence f (suc i) n
 
 -- west to east, each column from top to bottom
 abbrev pub tileAt : Rectangle → ℕ → Address
-tileAt r i = record { zoom = r .zoom; column = r .west +ℤ pos (i / height r); row = r .top +ℤ pos (i % height r) }
+tileAt r i = addressOf northEdition (r .zoom) (r .west +ℤ pos (i / height r)) (topRow r +ℤ pos (i % height r))
 
 abbrev pub listed : Rectangle → List Address
 listed r = sequence (tileAt r) 0 (area r)
@@ -60,13 +67,22 @@ keyFor a = addressCall a .key
 abbrev pub keys : List Address → List ℕ
 keys xs = map keyFor xs
 
--- 5: the zoom or one of the two rows is not in its range
+-- 14: there is no such edition
+abbrev pub misnamed : Rectangle → Bool
+misnamed r = not (isEdition (r .edition))
+
+-- 5: the zoom or one of the two rows is not in its range, so that the address step refuses a corner
 abbrev pub unplaced : Address → Bool
-unplaced a = eqb (addressCall a .number) 5
+unplaced a = not (eqb (addressCall a .number) 0)
+
+abbrev pub firstCorner : Rectangle → Address
+firstCorner r = addressOf (r .edition) (r .zoom) (r .west) (r .top)
+
+abbrev pub lastCorner : Rectangle → Address
+lastCorner r = addressOf (r .edition) (r .zoom) (r .east) (r .bottom)
 
 abbrev pub outOfRange : Rectangle → Bool
-outOfRange r =
-    unplaced (record { zoom = r .zoom; column = r .west; row = r .top }) || unplaced (record { zoom = r .zoom; column = r .east; row = r .bottom })
+outOfRange r = unplaced (firstCorner r) || unplaced (lastCorner r)
 
 -- 13: empty, wider than the level, or of too many tiles
 abbrev pub mostInRectangle : ℕ
@@ -111,8 +127,12 @@ roomRefusals places slots bytes = refuse 7 places ∷ refuse 8 slots ∷ refuse 
 abbrev pub listRefusals : World → ℕ → Procedure → List ℕ → List Refusal
 listRefusals w job p ks = refuseHeld (firstHeld (w .session .rule) (state w .book) job p ks) ∷ roomRefusals (fewPlaces w job p ks) (fewSlots w ks) (fewBytes w ks)
 
+-- 14, 5 and 13
+abbrev pub shapeRefusals : Rectangle → List Refusal
+shapeRefusals r = refuse 14 (misnamed r) ∷ refuse 5 (outOfRange r) ∷ refuse 13 (misshapen r) ∷ []
+
 abbrev pub rectangleRefusals : World → ℕ → Procedure → Rectangle → List Refusal
-rectangleRefusals w job p r = endRefusals w job ++ (refuse 5 (outOfRange r) ∷ refuse 13 (misshapen r) ∷ listRefusals w job p (keys (listed r)))
+rectangleRefusals w job p r = endRefusals w job ++ shapeRefusals r ++ listRefusals w job p (keys (listed r))
 
 -- the operations of a list of keys, carried out one after another, with a record each
 abbrev pub carriedAll : World → ℕ → Procedure → List ℕ → World

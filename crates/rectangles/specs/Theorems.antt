@@ -23,15 +23,15 @@ use Rattle.service.specs.Claims.{Keeps, RebuildsAlone, Serves, records}
 use Rattle.service.specs.Demands.{replay-exact}
 use Rattle.service.specs.Extents.{extentIn, upto}
 use Rattle.service.specs.History.{Call, From, history}
-use Rattle.service.specs.Limits.{jobCount, lastJob, operationSize, shortSize}
+use Rattle.service.specs.Limits.{jobCount, lastJob, northEdition, operationSize, shortSize, southEdition}
 use Rattle.service.specs.Sound.{soundB}
-use Rattle.service.specs.Tile.{turnsOf}
+use Rattle.service.specs.Tile.{isEdition, turnsOf}
 use Rattle.service.specs.Told.{toldHeld}
 use Rattle.service.specs.Turns.{TellsTurns}
 use Rattle.service.specs.World.{World, freeBytes, state, usedJournal}
 use Rattle.rectangles.specs.Claims.{AllDone, Apart, Before, FirstHeld, FromMoves, Inside, Misshapen, Move, Shaped, bytesRunOut, callsOf, followed, leftBy, placesRunOut, recordsOf, refusingRectangle, slotsRunOut, written}
 use Rattle.rectangles.specs.Laws.Demanding.{rectangle-accepted, rectangle-held, rectangle-room-just}
-use Rattle.rectangles.specs.Laws.Judging.{told-first, told-five, told-held, told-room, told-thirteen}
+use Rattle.rectangles.specs.Laws.Judging.{told-first, told-five, told-fourteen, told-held, told-room, told-thirteen}
 use Rattle.rectangles.specs.Laws.Keeping.{all-keep, all-write}
 use Rattle.rectangles.specs.Laws.Listing.{length-sequence, span-within, within-span}
 use Rattle.rectangles.specs.Laws.Tiles.{all-apart, in-order, listed-exactly}
@@ -80,11 +80,15 @@ module _ (w : World) (job : ℕ) (change : Change) (r : Rectangle) where
       × ((told ≡ 3) ↔ ((soundB w ≡ true) × (job ≤ lastJob) × (isOpen (state w) job ≡ false)))
   rectangle-first-three = told-first w job change r
 
-  -- then 5, and then 13
-  pub rectangle-five : (rectangleCall w job change r .told .number ≡ 5) ↔ (Serves w job × (outOfRange r ≡ true))
+  -- then 14, then 5, and then 13
+  pub rectangle-fourteen : (rectangleCall w job change r .told .number ≡ 14) ↔ (Serves w job × (r .edition ≢ southEdition) × (r .edition ≢ northEdition))
+  rectangle-fourteen = told-fourteen w job change r
+
+  pub rectangle-five : (rectangleCall w job change r .told .number ≡ 5) ↔ (Serves w job × (isEdition (r .edition) ≡ true) × (outOfRange r ≡ true))
   rectangle-five = told-five w job change r
 
-  pub thirteen-exact : (rectangleCall w job change r .told .number ≡ 13) ↔ (Serves w job × (outOfRange r ≡ false) × Misshapen r)
+  pub thirteen-exact : (rectangleCall w job change r .told .number ≡ 13)
+      ↔ (Serves w job × (isEdition (r .edition) ≡ true) × (outOfRange r ≡ false) × Misshapen r)
   thirteen-exact = told-thirteen w job change r
 
   -- then 6, for the first held tile in the order of the list, with the job of the first entry that holds it
@@ -143,7 +147,7 @@ pub moves-replay-exact : {by : Rule} {tiles : List ℕ} {count : ℕ} {operation
 moves-replay-exact f n operations′ same = replay-exact (written-out f) n operations′ same
 
 -- BY THE FIRST RULE
--- a rectangle of an open job, that 5 and 13 do not refuse, after the calls cs
+-- a rectangle of an open job, that 14, 5 and 13 do not refuse, after the calls cs
 module _ {tiles : List ℕ} {count : ℕ} {operations journal : List ℕ} {cs : Log Call} {w : World} (from : From Alone tiles count operations journal cs w)
     (job : ℕ) (change : Change) (r : Rectangle) (is-open : opened job (history cs) ≡ true) (shaped : Shaped r) where
   -- the starting tiles; and the operations that the calls keep, with those of the rectangle among them

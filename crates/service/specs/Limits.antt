@@ -38,6 +38,13 @@ kindFactor = 1099511627776
 abbrev pub jobFactor : ℕ
 jobFactor = 4294967296
 
+-- the editions of a feed: the first counts rows from the south, the second from the north
+abbrev pub southEdition : ℕ
+southEdition = 1
+
+abbrev pub northEdition : ℕ
+northEdition = 2
+
 -- the levels of the map
 abbrev pub lowestZoom : ℕ
 lowestZoom = 4

@@ -21,7 +21,7 @@ use Rattle.strict.specs.declared.Rule.the-variants.{Alone, Together}
 use Rattle.strict.specs.declared.Rule.{Rule}
 use Rattle.service.specs.Admission.{State, answerTo, isOpen, openMarks}
 use Rattle.service.specs.Calls.{abortCall, carried, commitCall, concluded, fresh, openCall, operationCall, ruledWorld, startCall, startWorld}
-use Rattle.service.specs.Claims.{Because, ChangedByOther, Halts, Keeps, Missing, Named, NoRoomByJob, Placeless, Serves, Tells, WantsOpen, holderIn, openBytes, operationBytes, refusing}
+use Rattle.service.specs.Claims.{Because, ChangedByOther, Halts, Keeps, Missing, Named, NoRoomByJob, OfEdition, Placeless, Serves, Tells, WantsOpen, holderIn, openBytes, operationBytes, refusing}
 use Rattle.service.specs.Entry.{opIn}
 use Rattle.service.specs.Extents.{recordSize}
 use Rattle.service.specs.History.{Call, call, event, jobOf, refusalsOf, turnsBy}
@@ -29,7 +29,7 @@ use Rattle.service.specs.Journal.{encode, front, readAt, readCall, recor
 use Rattle.service.specs.Laws.Accepting.{after-stands, carried-bytes, carried-places, carried-slots, carried-sound, first-told, left-carried, lowest-told, none-told, passed, passes, told-listed}
 use Rattle.service.specs.Laws.Deciding.{accepted-told, held-by-other, held-names, room-by-job, told-eight, told-nine, told-seven}
 use Rattle.service.specs.Laws.Halting.{number-of-replay, refused-is, refused-just, starts-left, tells-stop}
-use Rattle.service.specs.Laws.Ordering.{open-told, told-five, told-four, told-one, told-three, told-two}
+use Rattle.service.specs.Laws.Ordering.{open-told, told-five, told-four, told-fourteen, told-one, told-three, told-two}
 use Rattle.service.specs.Laws.Outcomes.{cut-just, end-just, tells-so}
 use Rattle.service.specs.Laws.Performing.{start-is, start-told}
 use Rattle.service.specs.Laws.Reading.{read-whole}
@@ -40,10 +40,10 @@ use Rattle.service.specs.Laws.Stopping.{stopped-because, stops-there}
 use Rattle.service.specs.Laws.Storing.{open-small}
 use Rattle.service.specs.Laws.Whole.{bytes-encoded, in-front, read-rule}
 use Rattle.service.specs.Laws.Wording.{settled-worded, worded-settled}
-use Rattle.service.specs.Limits.{jobCount, lastJob, mostBytes, mostOperations, shortSize}
+use Rattle.service.specs.Limits.{jobCount, lastJob, mostBytes, mostOperations, northEdition, shortSize, southEdition}
 use Rattle.service.specs.Replay.{Rebuilt, replayCall, stopped}
 use Rattle.service.specs.Sound.{AllSettled, Sound, Worded, soundB}
-use Rattle.service.specs.Tile.{keyOf}
+use Rattle.service.specs.Tile.{isEdition, keyOf}
 use Rattle.service.specs.Told.{Refusal, bare, done, refused, toldHeld}
 use Rattle.service.specs.World.{Reported, World, freeBytes, state, usedJournal, usedOperations, usedTiles, world}
 use Rattle.service.specs.declared.Address.{Address}
@@ -60,16 +60,16 @@ pub first-given : (w : World) (c : Call) (xs : List Refusal) (r : Refusal) (ys :
     → All (λ x. x .applies ≡ false) xs → r .applies ≡ true → call w c .told ≡ r .says
 first-given w c xs r ys e h a = first-told w c xs r ys e h a
 
--- which is the lowest number that applies, since these lists rise
-pub lowest-given : (w : World) (c : Call)
+-- which is the lowest number that applies, where 14, that is judged before 5, does not
+pub lowest-given : (w : World) (c : Call) → OfEdition c
     → All (λ r. r .applies ≡ true → (0 < call w c .told .number) × (call w c .told .number ≤ r .says .number)) (refusalsOf w c)
-lowest-given w c = lowest-told w c
+lowest-given w c h = lowest-told w c h
 
 -- and 0 where none applies
 pub none-given : (w : World) (c : Call) → refused (refusalsOf w c) ≡ false → call w c .told ≡ done (answerTo (state w) (event c)) (turnsBy c)
 none-given w c e = none-told w c e
 
--- the order in which they are judged: 1 first, then 2, then 3 (of an open 4), then 5
+-- the order in which they are judged: 1 first, then 2, then 3 (of an open 4), then 14, then 5
 pub one-exact : (w : World) (c : Call) → (call w c .told .number ≡ 1) ↔ (soundB w ≡ false)
 one-exact w c = told-one w c
 
@@ -83,7 +83,12 @@ three-exact w c h = told-three w c h
 pub four-exact : (w : World) (job : ℕ) → (openCall w job .told .number ≡ 4) ↔ ((soundB w ≡ true) × (job ≤ lastJob) × (isOpen (state w) job ≡ true))
 four-exact w job = told-four w job
 
-pub five-exact : (w : World) (job : ℕ) (p : Procedure) (a : Address) → (operationCall w job p a .told .number ≡ 5) ↔ (Serves w job × (keyOf a ≡ none))
+pub fourteen-exact : (w : World) (job : ℕ) (p : Procedure) (a : Address)
+    → (operationCall w job p a .told .number ≡ 14) ↔ (Serves w job × (a .edition ≢ southEdition) × (a .edition ≢ northEdition))
+fourteen-exact w job p a = told-fourteen w job p a
+
+pub five-exact : (w : World) (job : ℕ) (p : Procedure) (a : Address)
+    → (operationCall w job p a .told .number ≡ 5) ↔ (Serves w job × (isEdition (a .edition) ≡ true) × (keyOf a ≡ none))
 five-exact w job p a = told-five w job p a
 
 -- an open whose job is not open is done or refused by 9, by the bytes that it asks for

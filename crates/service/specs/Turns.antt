@@ -16,9 +16,9 @@ use Rattle.service.specs.Calls.{concluded, startCall, startRefusals}
 use Rattle.service.specs.Claims.{holderIn}
 use Rattle.service.specs.History.{Call, aborting, call, committing, event, opening, operating, refusalsOf, turnsBy}
 use Rattle.service.specs.Laws.Accepting.{numbered}
-use Rattle.service.specs.Laws.Keys.{around-is, around-lt, turns-only}
+use Rattle.service.specs.Laws.Keys.{around-is, around-lt, keyed-edition, turns-only}
 use Rattle.service.specs.Laws.Telling.{Numbered}
-use Rattle.service.specs.Tile.{Placed, addressCall, around, columnIn, keyOf, turnsIn, turnsOf}
+use Rattle.service.specs.Tile.{Placed, addressCall, around, columnIn, keyOf, northRow, turnsIn, turnsOf}
 use Rattle.service.specs.Told.{Refusal, bare, decided, done, refuseHeld}
 use Rattle.service.specs.World.{World, state}
 use Rattle.service.specs.declared.Address.{Address}
@@ -27,14 +27,13 @@ use Rattle.service.specs.declared.Told.{Told}
 -- the turns are the one number with which column = turns × 2 ^ zoom + the key's column
 pub turns-exact : (a : Address) (k : ℕ) → keyOf a ≡ some k
     → (turns : ℤ) → (a .column ≡ turns *ℤ pos (2 ^ (a .zoom)) +ℤ pos (columnIn k)) ↔ (turns ≡ addressCall a .turns)
-unfolding keyOf
 turns-exact a k e turns = (only, meets)
   where
     size : ℕ
     size = 2 ^ (a .zoom)
 
     column-is : columnIn k ≡ around (a .column) size
-    column-is = key-parts (a .zoom) (a .column) (a .row) k e .1
+    column-is = key-parts (a .zoom) (a .column) (northRow (a .edition) (a .zoom) (a .row)) k (keyed-edition a k e .1) .1
 
     told : addressCall a .turns ≡ turnsIn a
     told = ap (λ (p : Placed). p .turns) (address-given a k e)
@@ -75,7 +74,7 @@ turnless w (opening job) = ((refl, refl), ((refl, refl), ((refl, refl), ((refl, 
 turnless w (committing job) = ((refl, refl), ((refl, refl), ((refl, refl), tt)))
 turnless w (aborting job) = ((refl, refl), ((refl, refl), ((refl, refl), tt)))
 turnless w (operating job p a) =
-    ((refl, refl), ((refl, refl), ((refl, refl), ((refl, refl), (held-turnless (holderIn w job p (addressCall a .key)), ((refl, refl), ((refl, refl), ((refl, refl), tt))))))))
+    ((refl, refl), ((refl, refl), ((refl, refl), ((refl, refl), ((refl, refl), (held-turnless (holderIn w job p (addressCall a .key)), ((refl, refl), ((refl, refl), ((refl, refl), tt)))))))))
 
 -- an operation that is done tells the turns of its address; every other reply, and every refusal, tells 0
 pub turns-told : (w : World) (c : Call) → TellsTurns (call w c .told) (turnsBy c) (pos 0)

@@ -1,5 +1,5 @@
 -- A list of operations on different tiles: it fits just where its operations, called one after another, are all done
-use mathlib.Core.Bool.{Bool, _&&_, false, true}
+use mathlib.Core.Bool.{Bool, _&&_, false, not, true}
 use mathlib.Core.List.{List, [], _∷_}
 use mathlib.Core.Logic.{_≢_}
 use mathlib.Core.Option.{Option, none, some}
@@ -9,7 +9,7 @@ use native.Mathlib.Omega.{arith}
 use lib.Dec.{eqb}
 use lib.ListN.{getD, length, length-append}
 use lib.Seq.{length-sets, slice}
-use borrow.Author.Tests.{le-ltb, ltb-false, ne-eqb, not-false}
+use borrow.Author.Tests.{eqb-true, le-ltb, ltb-false, ne-eqb, not-false}
 use Rattle.lists.specs.Lists.{All, slice-end, slice-next}
 use Rattle.lists.specs.Truth.{oneIf}
 use Rattle.strict.specs.Book.{Book, heldBy, needsPlace, spokenFor, step}
@@ -27,8 +27,8 @@ use Rattle.service.specs.Laws.Keys.{key-valid}
 use Rattle.service.specs.Laws.Soundness.{is-sound, sound-is}
 use Rattle.service.specs.Laws.Storing.{tabled-stands}
 use Rattle.service.specs.Laws.Telling.{Passed, not-held, unrefused}
-use Rattle.service.specs.Limits.{jobCount, lastJob, operationSize}
-use Rattle.service.specs.Tile.{isKey, keyOf, placedAt, turnsIn}
+use Rattle.service.specs.Limits.{jobCount, lastJob, northEdition, operationSize}
+use Rattle.service.specs.Tile.{addressCall, isKey, keyOf, placedAt, turnsIn}
 use Rattle.service.specs.Told.{refuseHeld}
 use Rattle.service.specs.World.{World, freeBytes, state}
 use Rattle.service.specs.declared.Address.{Address}
@@ -60,7 +60,8 @@ module _ (w : World) (job : ℕ) (p : Procedure) (a : Address) where
       let bytes = le-ltb (freeBytes w) (operationBytes w) (let x = f .bytes in omega arith) in
       let last : Passed (keyedRefusals w job p (keyFor a)) = (ap (λ o. refuseHeld o .applies) h, (room, (slot, (bytes, tt)))) in
       let v = serves-is w job .1 (f .ready) in
-      accepted w one .1 (v .0, (v .1 .0, (v .1 .1 .0, (placed, last))))
+      let number : addressCall a .number ≡ 0 = eqb-true _ 0 (not-false _ placed) in
+      accepted w one .1 (v .0, (v .1 .0, (v .1 .1 .0, (ap (λ n. eqb n 14) number, (ap (λ n. eqb n 5) number, last)))))
 
 -- what an operation that may happen leaves fits the rest just where the world fits the list
 module _ (w : World) (job : ℕ) (p : Procedure) (k : ℕ) (full : length (w .session .marks) ≡ jobCount) (may : Passes w (operation job p k)) where
@@ -170,9 +171,9 @@ pub fits-passes : (w : World) (job : ℕ) (p : Procedure) (k : ℕ) (ks : List �
 unfolding keyOf
 fits-passes w job p k ks valid f =
     let v = key-valid k valid in
-    let a : Address = record { zoom = v .0; column = v .1; row = v .2 } in
+    let a : Address = record { edition = northEdition; zoom = v .0; column = v .1; row = v .2 } in
     let same : keyFor a ≡ k = ap (λ o. placedAt o (turnsIn a) .key) (v .3) in
-    let placed : unplaced a ≡ false = ap (λ o. eqb (placedAt o (turnsIn a) .number) 5) (v .3) in
+    let placed : unplaced a ≡ false = ap (λ o. not (eqb (placedAt o (turnsIn a) .number) 0)) (v .3) in
     let c = operating job p a in
     subst (λ x. Passes w (operation job p x)) same
     (passes w c (passed w c (first-done w job p a ks placed (subst (λ x. Fits w job p (x ∷ ks)) (sym same) f))))

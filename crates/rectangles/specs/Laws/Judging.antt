@@ -22,10 +22,12 @@ use Rattle.service.specs.Admission.{isOpen, openMarks}
 use Rattle.service.specs.Calls.{endRefusals}
 use Rattle.service.specs.Claims.{Serves}
 use Rattle.service.specs.Laws.Accepting.{serves-is}
+use Rattle.service.specs.Laws.Keys.{no-edition}
 use Rattle.service.specs.Laws.Soundness.{sound-is}
 use Rattle.service.specs.Laws.Storing.{tabled-stands}
 use Rattle.service.specs.Laws.Telling.{Others, Passed, found-is, held-six, holder-told, told-exactly, told-whole}
-use Rattle.service.specs.Limits.{lastJob}
+use Rattle.service.specs.Limits.{lastJob, northEdition, southEdition}
+use Rattle.service.specs.Tile.{isEdition}
 use Rattle.service.specs.Sound.{soundB}
 use Rattle.service.specs.Told.{Refusal, decided, refuse, refuseHeld, toldHeld}
 use Rattle.service.specs.World.{World, freeBytes, state}
@@ -35,7 +37,7 @@ use Rattle.rectangles.specs.Laws.Fitting.{first-none}
 use Rattle.rectangles.specs.Laws.Running.{bytes-run-out, places-run-out, slots-run-out}
 use Rattle.rectangles.specs.Laws.Tiles.{all-apart}
 use Rattle.rectangles.specs.Laws.Whole.{rectangle-told}
-use Rattle.rectangles.specs.Rectangles.{area, covered, fewBytes, fewPlaces, fewSlots, firstHeld, firstOf, height, keys, listRefusals, listed, misshapen, outOfRange, procedureFor, rectangleCall, roomRefusals, span, width}
+use Rattle.rectangles.specs.Rectangles.{area, bottomRow, covered, fewBytes, fewPlaces, fewSlots, firstHeld, firstOf, height, keys, listRefusals, listed, misnamed, misshapen, outOfRange, procedureFor, rectangleCall, roomRefusals, span, topRow, width}
 use Rattle.rectangles.specs.declared.Change.{Change}
 use Rattle.rectangles.specs.declared.Rectangle.{Rectangle}
 
@@ -100,7 +102,7 @@ or-iff false b f g = (λ e. inr (g .0 e), λ h. ⊎-elim (λ x. never (sym (f .1
 pub misshapen-is : (r : Rectangle) → (misshapen r ≡ true) ↔ Misshapen r
 misshapen-is r =
     or-iff (eqb (width r) 0) _ (empty-is (r .west) (r .east))
-    (or-iff (eqb (height r) 0) _ (empty-is (r .top) (r .bottom))
+    (or-iff (eqb (height r) 0) _ (empty-is (topRow r) (bottomRow r))
     (or-iff (ltb (2 ^ (r .zoom)) (width r)) (ltb 256 (area r)) (ltb-true _ _, lt-ltb _ _) (ltb-true _ _, lt-ltb _ _)))
   where
     empty-is : (a b : ℤ) → (eqb (span a b) 0 ≡ true) ↔ (b <ℤ a)
@@ -140,15 +142,18 @@ module _ (w : World) (job : ℕ) (change : Change) (r : Rectangle) where
   abbrev told : Told
   told = rectangleCall w job change r .told
 
-  -- 1, 2, 3; and then 5 and 13
+  -- 1, 2, 3; and then 14, 5 and 13
   abbrev three : List Refusal
   three = endRefusals w job
 
   abbrev four : List Refusal
-  four = three ++ (refuse 5 (outOfRange r) ∷ [])
+  four = three ++ (refuse 14 (misnamed r) ∷ [])
 
   abbrev five : List Refusal
-  five = four ++ (refuse 13 (misshapen r) ∷ [])
+  five = four ++ (refuse 5 (outOfRange r) ∷ [])
+
+  abbrev six : List Refusal
+  six = five ++ (refuse 13 (misshapen r) ∷ [])
 
   serves-then : (xs : List Refusal) → Passed (three ++ xs) ↔ (Serves w job × Passed xs)
   serves-then xs = let v = serves-is w job in (
@@ -167,13 +172,13 @@ module _ (w : World) (job : ℕ) (change : Change) (r : Rectangle) where
       let a = refuse 1 (not (soundB w)) in
       let b = refuse 2 (ltb lastJob job) in
       let c = refuse 3 (not (isOpen (state w) job)) in
-      let later = refuse 5 (outOfRange r) ∷ refuse 13 (misshapen r) ∷ listRefusals w job p ks in
+      let later = refuse 14 (misnamed r) ∷ refuse 5 (outOfRange r) ∷ refuse 13 (misshapen r) ∷ listRefusals w job p ks in
       let one = told-exactly 1 [] a (b ∷ c ∷ later) (covered r) tt refl
-      (omega arith, (omega arith, (omega arith, (omega arith, last-others 1 (omega arith) (omega arith) (omega arith) (omega arith))))) (omega arith) in
+      (omega arith, (omega arith, (omega arith, (omega arith, (omega arith, last-others 1 (omega arith) (omega arith) (omega arith) (omega arith)))))) (omega arith) in
       let two = told-exactly 2 (a ∷ []) b (c ∷ later) (covered r) (omega arith, tt) refl
-      (omega arith, (omega arith, (omega arith, last-others 2 (omega arith) (omega arith) (omega arith) (omega arith)))) (omega arith) in
+      (omega arith, (omega arith, (omega arith, (omega arith, last-others 2 (omega arith) (omega arith) (omega arith) (omega arith))))) (omega arith) in
       let three = told-exactly 3 (a ∷ b ∷ []) c later (covered r) (omega arith, (omega arith, tt)) refl
-      (omega arith, (omega arith, last-others 3 (omega arith) (omega arith) (omega arith) (omega arith))) (omega arith) in
+      (omega arith, (omega arith, (omega arith, last-others 3 (omega arith) (omega arith) (omega arith) (omega arith)))) (omega arith) in
       let t = ap (λ (t : Told). t .number) (rectangle-told w job change r) in (
         (λ e. not-true _ (one .0 (sym t ∙ e) .1), λ e. t ∙ one .1 (tt, ap not e)),
         (
@@ -186,39 +191,50 @@ module _ (w : World) (job : ℕ) (change : Change) (r : Rectangle) where
         ),
       )
 
-  pub told-five : (told .number ≡ 5) ↔ (Serves w job × (outOfRange r ≡ true))
-  told-five =
-      let x = told-exactly 5 three (refuse 5 (outOfRange r)) (refuse 13 (misshapen r) ∷ listRefusals w job p ks) (covered r)
-      (omega arith, (omega arith, (omega arith, tt))) refl (omega arith, last-others 5 (omega arith) (omega arith) (omega arith) (omega arith)) (omega arith) in
+  pub told-fourteen : (told .number ≡ 14) ↔ (Serves w job × (r .edition ≢ southEdition) × (r .edition ≢ northEdition))
+  told-fourteen =
+      let x = told-exactly 14 three (refuse 14 (misnamed r)) (refuse 5 (outOfRange r) ∷ refuse 13 (misshapen r) ∷ listRefusals w job p ks) (covered r)
+      (omega arith, (omega arith, (omega arith, tt))) refl (omega arith, (omega arith, last-others 14 (omega arith) (omega arith) (omega arith) (omega arith))) (omega arith) in
       let y = serves-then [] in
+      let n = no-edition (r .edition) in
       let t = ap (λ (t : Told). t .number) (rectangle-told w job change r) in (
-        λ e. let c = x .0 (sym t ∙ e) in (y .0 (c .0) .0, c .1),
-        λ c. t ∙ x .1 (y .1 (c .0, tt), c .1),
+        λ e. let c = x .0 (sym t ∙ e) in let m = n .0 (not-true _ (c .1)) in (y .0 (c .0) .0, m .0, m .1),
+        λ c. t ∙ x .1 (y .1 (c .0, tt), ap not (n .1 (c .1, c .2))),
       )
 
-  pub told-thirteen : (told .number ≡ 13) ↔ (Serves w job × (outOfRange r ≡ false) × Misshapen r)
+  pub told-five : (told .number ≡ 5) ↔ (Serves w job × (isEdition (r .edition) ≡ true) × (outOfRange r ≡ true))
+  told-five =
+      let x = told-exactly 5 four (refuse 5 (outOfRange r)) (refuse 13 (misshapen r) ∷ listRefusals w job p ks) (covered r)
+      (omega arith, (omega arith, (omega arith, (omega arith, tt)))) refl (omega arith, last-others 5 (omega arith) (omega arith) (omega arith) (omega arith)) (omega arith) in
+      let y = serves-then (refuse 14 (misnamed r) ∷ []) in
+      let t = ap (λ (t : Told). t .number) (rectangle-told w job change r) in (
+        λ e. let c = x .0 (sym t ∙ e) in let z = y .0 (c .0) in (z .0, not-false _ (z .1 .0), c .1),
+        λ c. t ∙ x .1 (y .1 (c .0, (ap not (c .1), tt)), c .2),
+      )
+
+  pub told-thirteen : (told .number ≡ 13) ↔ (Serves w job × (isEdition (r .edition) ≡ true) × (outOfRange r ≡ false) × Misshapen r)
   told-thirteen =
-      let x = told-exactly 13 four (refuse 13 (misshapen r)) (listRefusals w job p ks) (covered r)
-      (omega arith, (omega arith, (omega arith, (omega arith, tt)))) refl (last-others 13 (omega arith) (omega arith) (omega arith) (omega arith)) (omega arith) in
-      let y = serves-then (refuse 5 (outOfRange r) ∷ []) in
+      let x = told-exactly 13 five (refuse 13 (misshapen r)) (listRefusals w job p ks) (covered r)
+      (omega arith, (omega arith, (omega arith, (omega arith, (omega arith, tt))))) refl (last-others 13 (omega arith) (omega arith) (omega arith) (omega arith)) (omega arith) in
+      let y = serves-then (refuse 14 (misnamed r) ∷ refuse 5 (outOfRange r) ∷ []) in
       let m = misshapen-is r in
       let t = ap (λ (t : Told). t .number) (rectangle-told w job change r) in (
-        λ e. let c = x .0 (sym t ∙ e) in let z = y .0 (c .0) in (z .0, z .1 .0, m .0 (c .1)),
-        λ c. t ∙ x .1 (y .1 (c .0, (c .1, tt)), m .1 (c .2)),
+        λ e. let c = x .0 (sym t ∙ e) in let z = y .0 (c .0) in (z .0, not-false _ (z .1 .0), z .1 .1 .0, m .0 (c .1)),
+        λ c. t ∙ x .1 (y .1 (c .0, (ap not (c .1), (c .2, tt))), m .1 (c .3)),
       )
 
-  shaped-is : Passed five ↔ (Serves w job × Shaped r)
+  shaped-is : Passed six ↔ (Serves w job × Shaped r)
   shaped-is =
-      let y = serves-then (refuse 5 (outOfRange r) ∷ refuse 13 (misshapen r) ∷ []) in (
-        λ e. let z = y .0 e in (z .0, record { in-range = z .1 .0; well-formed = z .1 .1 .0 }),
-        λ c. y .1 (c .0, (c .1 .in-range, (c .1 .well-formed, tt))),
+      let y = serves-then (refuse 14 (misnamed r) ∷ refuse 5 (outOfRange r) ∷ refuse 13 (misshapen r) ∷ []) in (
+        λ e. let z = y .0 e in (z .0, record { of-edition = not-false _ (z .1 .0); in-range = z .1 .1 .0; well-formed = z .1 .1 .1 .0 }),
+        λ c. y .1 (c .0, (ap not (c .1 .of-edition), (c .1 .in-range, (c .1 .well-formed, tt)))),
       )
 
   pub told-six : (told .number ≡ 6) ↔ (Serves w job × Shaped r × (firstHeld rule (state w .book) job p ks ≢ none))
   told-six =
       let o = firstHeld rule (state w .book) job p ks in
-      let x = told-exactly 6 five (refuseHeld o) (roomRefusals (fewPlaces w job p ks) (fewSlots w ks) (fewBytes w ks)) (covered r)
-      (omega arith, (omega arith, (omega arith, (omega arith, (omega arith, tt))))) (held-six o) (omega arith, (omega arith, (omega arith, tt))) (omega arith) in
+      let x = told-exactly 6 six (refuseHeld o) (roomRefusals (fewPlaces w job p ks) (fewSlots w ks) (fewBytes w ks)) (covered r)
+      (omega arith, (omega arith, (omega arith, (omega arith, (omega arith, (omega arith, tt)))))) (held-six o) (omega arith, (omega arith, (omega arith, tt))) (omega arith) in
       let t = ap (λ (t : Told). t .number) (rectangle-told w job change r) in
       let f = found-is o in (
         λ e. let c = x .0 (sym t ∙ e) in let s = shaped-is .0 (c .0) in (s .0, s .1, f .0 (c .1)),
@@ -230,14 +246,14 @@ module _ (w : World) (job : ℕ) (change : Change) (r : Rectangle) where
       let m = state w .book in
       let o = firstHeld rule m job p ks in
       let rest = roomRefusals (fewPlaces w job p ks) (fewSlots w ks) (fewBytes w ks) in
-      let x = told-exactly 6 five (refuseHeld o) rest (covered r)
-      (omega arith, (omega arith, (omega arith, (omega arith, (omega arith, tt))))) (held-six o) (omega arith, (omega arith, (omega arith, tt))) (omega arith) in
+      let x = told-exactly 6 six (refuseHeld o) rest (covered r)
+      (omega arith, (omega arith, (omega arith, (omega arith, (omega arith, (omega arith, tt)))))) (held-six o) (omega arith, (omega arith, (omega arith, tt))) (omega arith) in
       let t = rectangle-told w job change r in (
         λ e. let c = x .0 (ap (λ (t : Told). t .number) (sym t ∙ e)) in
             let s = shaped-is .0 (c .0) in
-            (s .0, s .1, held-first rule m job p ks i (holder-told o i (c .1) (sym (told-whole five (refuseHeld o) rest (covered r) (c .0) (c .1)) ∙ sym t ∙ e))),
+            (s .0, s .1, held-first rule m job p ks i (holder-told o i (c .1) (sym (told-whole six (refuseHeld o) rest (covered r) (c .0) (c .1)) ∙ sym t ∙ e))),
         λ c. let e = first-held rule m job p ks i (c .2) in
-            t ∙ told-whole five (refuseHeld o) rest (covered r) (shaped-is .1 (c .0, c .1)) (ap (λ q. refuseHeld q .applies) e)
+            t ∙ told-whole six (refuseHeld o) rest (covered r) (shaped-is .1 (c .0, c .1)) (ap (λ q. refuseHeld q .applies) e)
             ∙ ap (λ q. refuseHeld q .says) e,
       )
 
@@ -261,7 +277,7 @@ module _ (w : World) (job : ℕ) (change : Change) (r : Rectangle) where
         let b = slots-run-out rule job p (length (w .operations)) ks m (s .fits) in
         let c = bytes-run-out (freeBytes w) (openMarks (w .session .marks)) ks (o .ends-fit) in
         ap (λ (t : Told). t .number) (rectangle-told w job change r)
-        ∙ passed-by five (listRefusals w job p ks) (covered r) (shaped-is .1 (ready, shaped))
+        ∙ passed-by six (listRefusals w job p ks) (covered r) (shaped-is .1 (ready, shaped))
         ∙ ap (λ q. decided (refuseHeld q ∷ roomRefusals (fewPlaces w job p ks) (fewSlots w ks) (fewBytes w ks)) (covered r) .number) (none-held rule m job p ks unheld)
         ∙ sym (λ i. decided (roomRefusals (a i) (b i) (c i)) (covered r) .number)
 

@@ -1,5 +1,5 @@
--- The tiles of a rectangle that 5 and 13 do not refuse
-use mathlib.Core.Bool.{Bool, false, true}
+-- The tiles of a rectangle that 14, 5 and 13 do not refuse
+use mathlib.Core.Bool.{Bool, false, not, true}
 use mathlib.Core.Logic.{_↔_, _≢_, inl, inr}
 use mathlib.Core.Option.{Option, none, some}
 use mathlib.Core.Path.{_∙_, _≡_, ap, ap₂, refl, subst, sym}
@@ -9,26 +9,28 @@ use native.Mathlib.Omega.{arith}
 use lib.Dec.{eqb, ltb}
 use lib.IntN.{_+ℤ_, pos, ℤ}
 use lib.Pow.{pow-pos}
-use borrow.Author.Tests.{eqb-false, ltb-false, ltb-true}
-use Rattle.lists.specs.Truth.{Same, never, or-left, or-right, other, same, same?}
+use borrow.Author.Tests.{eqb-false, eqb-true, ltb-false, ltb-true, not-false}
+use Rattle.lists.specs.Truth.{Same, or-left, or-right, other, same, same?}
 use Rattle.strict.specs.Tiles.{member}
 use Rattle.service.specs.Addresses.{one-key}
-use Rattle.service.specs.Laws.Keys.{has-key, keyed-at}
-use Rattle.service.specs.Tile.{around, keyAt, keyOf, packKey, placedAt, turnsIn}
+use Rattle.service.specs.Laws.Keys.{has-key, keyed-at, keyed-edition, step-key, valid-key}
+use Rattle.service.specs.Tile.{addressCall, around, isKey, keyAt, keyOf, northRow, packKey, placedAt, turnsIn}
 use Rattle.service.specs.declared.Address.{Address}
 use Rattle.rectangles.specs.Claims.{Apart, Before, Inside, Shaped}
 use Rattle.rectangles.specs.Fitting.{Placed}
 use Rattle.rectangles.specs.Laws.Listing.{all-sequence, apart-sequence, around-add, columns-apart, further, map-sequence, member-sequence, sequence-member, span-within, within-span}
-use Rattle.rectangles.specs.Rectangles.{area, height, keyFor, keys, listed, sequence, span, tileAt, unplaced, width}
+use Rattle.rectangles.specs.Rectangles.{area, bottomRow, firstCorner, height, keyFor, keys, lastCorner, listed, sequence, span, tileAt, topRow, unplaced, width}
 use Rattle.rectangles.specs.declared.Rectangle.{Rectangle}
 
--- an address that 5 does not refuse has a key
+-- an address that the step does not refuse has a key
 pub placed-key : (a : Address) → unplaced a ≡ false → keyOf a ≡ some (keyFor a)
-placed-key a e = go (keyOf a) e
-  where
-    go : (o : Option ℕ) → eqb (placedAt o (turnsIn a) .number) 5 ≡ false → o ≡ some (placedAt o (turnsIn a) .key)
-    go (some k) e = refl
-    go none e = never e
+placed-key a e =
+    let number : addressCall a .number ≡ 0 = eqb-true _ 0 (not-false _ e) in
+    step-key a (ap (λ n. eqb n 14) number) (ap (λ n. eqb n 5) number)
+
+-- and its row, counted from the north, is in its range
+pub placed-row : (a : Address) → unplaced a ≡ false → keyAt (a .zoom) (a .column) (northRow (a .edition) (a .zoom) (a .row)) ≡ some (keyFor a)
+placed-row a e = keyed-edition a (keyFor a) (placed-key a e) .1
 
 -- the rectangle in numbers
 pub record Extent (r : Rectangle) : Type 0 where
@@ -36,8 +38,8 @@ pub record Extent (r : Rectangle) : Type 0 where
   pub high : r .zoom ≤ 14
   pub north : ℕ
   pub south : ℕ
-  pub north-is : r .top ≡ pos north
-  pub south-is : r .bottom ≡ pos south
+  pub north-is : topRow r ≡ pos north
+  pub south-is : bottomRow r ≡ pos south
   pub south-fits : south < 2 ^ (r .zoom)
   pub wide : 0 < width r
   pub tall : 0 < height r
@@ -47,12 +49,11 @@ not-zero : (n : ℕ) → eqb n 0 ≡ false → 0 < n
 not-zero n e = let d : n ≢ 0 = eqb-false n 0 e in omega arith
 
 pub extent : (r : Rectangle) → Shaped r → Extent r
-unfolding keyOf
 extent r s =
-    let first : Address = record { zoom = r .zoom; column = r .west; row = r .top } in
-    let last : Address = record { zoom = r .zoom; column = r .east; row = r .bottom } in
-    let a = keyed-at (r .zoom) (r .west) (r .top) (keyFor first) (placed-key first (or-left (unplaced first) (unplaced last) (s .in-range))) in
-    let b = keyed-at (r .zoom) (r .east) (r .bottom) (keyFor last) (placed-key last (or-right (unplaced first) (unplaced last) (s .in-range))) in
+    let first = firstCorner r in
+    let last = lastCorner r in
+    let a = keyed-at (r .zoom) (r .west) (topRow r) (keyFor first) (placed-row first (or-left (unplaced first) (unplaced last) (s .in-range))) in
+    let b = keyed-at (r .zoom) (r .east) (bottomRow r) (keyFor last) (placed-row last (or-right (unplaced first) (unplaced last) (s .in-range))) in
     let x = or-right (eqb (width r) 0) _ (s .well-formed) in
     let y = or-right (eqb (height r) 0) _ x in
     record {
@@ -85,7 +86,7 @@ module _ (r : Rectangle) (s : Shaped r) where
   row-in i = mod-lt i (e .tall)
 
   -- the key of tile i
-  tile-key : (i : ℕ) → keyAt (r .zoom) (columnOf i) (r .top +ℤ pos (i % height r))
+  tile-key : (i : ℕ) → keyAt (r .zoom) (columnOf i) (topRow r +ℤ pos (i % height r))
       ≡ some (packKey (r .zoom) (around (columnOf i) (2 ^ (r .zoom))) (e .north + i % height r))
   tile-key i =
       let h = height-is in
@@ -96,9 +97,9 @@ module _ (r : Rectangle) (s : Shaped r) where
 
   pub tile-placed : (i : ℕ) → unplaced (tileAt r i) ≡ false
   unfolding keyOf
-  tile-placed i = ap (λ o. eqb (placedAt o (turnsIn (tileAt r i)) .number) 5) (tile-key i)
+  tile-placed i = ap (λ o. not (eqb (placedAt o (turnsIn (tileAt r i)) .number) 0)) (tile-key i)
 
-  tile-keyed : (i : ℕ) → keyAt (r .zoom) (columnOf i) (r .top +ℤ pos (i % height r)) ≡ some (keyFor (tileAt r i))
+  tile-keyed : (i : ℕ) → keyAt (r .zoom) (columnOf i) (topRow r +ℤ pos (i % height r)) ≡ some (keyFor (tileAt r i))
   unfolding keyOf
   tile-keyed i = placed-key (tileAt r i) (tile-placed i)
 
@@ -109,6 +110,9 @@ module _ (r : Rectangle) (s : Shaped r) where
   key-stepped i =
       ap (λ o. placedAt o (turnsIn (tileAt r i)) .key) (tile-key i)
       ∙ ap (λ x. packKey (r .zoom) x (e .north + i % height r)) (around-add (r .west) (i / height r) (2 ^ (r .zoom)) (pow-pos (r .zoom)))
+
+  pub tile-valid : (i : ℕ) → isKey (keyFor (tileAt r i)) ≡ true
+  tile-valid i = valid-key (keyFor (tileAt r i)) (r .zoom, columnOf i, topRow r +ℤ pos (i % height r), tile-keyed i)
 
   pub all-placed : Placed (listed r)
   all-placed = all-sequence (tileAt r) (λ a. unplaced a ≡ false) 0 (area r) (λ i l u. tile-placed i)
@@ -124,7 +128,7 @@ module _ (r : Rectangle) (s : Shaped r) where
   keys-differ i j l u q = go (same? (i / height r) (j / height r))
     where
       both-parts : (r .zoom ≡ r .zoom) × (around (columnOf i) (2 ^ (r .zoom)) ≡ around (columnOf j) (2 ^ (r .zoom)))
-          × (r .top +ℤ pos (i % height r) ≡ r .top +ℤ pos (j % height r))
+          × (topRow r +ℤ pos (i % height r) ≡ topRow r +ℤ pos (j % height r))
       both-parts = one-key (r .zoom) (r .zoom) (columnOf i) (columnOf j) _ _ (keyOn i) (keyOn j) (tile-keyed i) (tile-keyed j) .0 q
 
       rows : i % height r ≡ j % height r
@@ -160,10 +164,10 @@ module _ (r : Rectangle) (s : Shaped r) where
       let x = member-sequence keyOn k 0 (area r) (subst (λ l. member k l ≡ true) keys-are m) in
       let i = x .0 in
       let across = within-span (r .west) (r .east) (i / height r) (column-in i (let l = x .2 in omega arith)) in
-      let down = within-span (r .top) (r .bottom) (i % height r) (row-in i) in
+      let down = within-span (topRow r) (bottomRow r) (i % height r) (row-in i) in
       record {
         column = columnOf i;
-        row = r .top +ℤ pos (i % height r);
+        row = topRow r +ℤ pos (i % height r);
         from-west = across .0;
         to-east = across .1;
         from-top = down .0;
@@ -174,7 +178,7 @@ module _ (r : Rectangle) (s : Shaped r) where
   inside-listed : (k : ℕ) → Inside r k → member k (keys (listed r)) ≡ true
   inside-listed k d =
       let across = span-within (r .west) (r .east) (d .column) (d .from-west) (d .to-east) in
-      let down = span-within (r .top) (r .bottom) (d .row) (d .from-top) (d .to-bottom) in
+      let down = span-within (topRow r) (bottomRow r) (d .row) (d .from-top) (d .to-bottom) in
       let x = across .0 in
       let y = down .0 in
       let h = height r in
@@ -182,8 +186,8 @@ module _ (r : Rectangle) (s : Shaped r) where
       let column : i / h ≡ x = mul-add-div-right (e .tall) x y ∙ ap (λ n. x + n) (div-eq-of-lt (down .1)) ∙ omega arith in
       let row : i % h ≡ y = mul-add-mod-self-right x h y ∙ mod-eq-of-lt (down .1) in
       let inside : i < area r = let m = mul-le-mul-right h (across .1) in let n = suc-mul x h in let l = down .1 in omega arith in
-      let there : keyAt (r .zoom) (columnOf i) (r .top +ℤ pos (i % h)) ≡ some k =
-      ap₂ (λ a b. keyAt (r .zoom) (r .west +ℤ pos a) (r .top +ℤ pos b)) column row
+      let there : keyAt (r .zoom) (columnOf i) (topRow r +ℤ pos (i % h)) ≡ some k =
+      ap₂ (λ a b. keyAt (r .zoom) (r .west +ℤ pos a) (topRow r +ℤ pos b)) column row
       ∙ ap₂ (λ a b. keyAt (r .zoom) a b) (sym (across .2)) (sym (down .2)) ∙ d .has-key in
       let same-key : keyOn i ≡ k = let a = tile-keyed i in cc in
       subst (λ n. member n (keys (listed r)) ≡ true) same-key
@@ -207,7 +211,7 @@ module _ (r : Rectangle) (s : Shaped r) where
           let m : i / height r * height r ≡ j / height r * height r = ap (λ x. x * height r) p in
           let x = a in
           let y = b in
-          inr (ap (λ n. r .west +ℤ pos n) p, further (r .top) (i % height r) (j % height r) (omega arith))
+          inr (ap (λ n. r .west +ℤ pos n) p, further (topRow r) (i % height r) (j % height r) (omega arith))
       go (other p t) = inl (further (r .west) (i / height r) (j / height r) (by (ltb (i / height r) (j / height r)) refl))
         where
           by : (c : Bool) → ltb (i / height r) (j / height r) ≡ c → i / height r < j / height r

@@ -1,5 +1,5 @@
--- A rectangle that 5 and 13 do not refuse is its operations
-use mathlib.Core.Bool.{cond, true}
+-- A rectangle that 14, 5 and 13 do not refuse is its operations
+use mathlib.Core.Bool.{cond, not, true}
 use mathlib.Core.List.{List, [], _∷_}
 use mathlib.Core.Logic.{_↔_, _≢_}
 use mathlib.Core.Option.{Option, none, some}
@@ -10,7 +10,7 @@ use native.Mathlib.Omega.{arith}
 use lib.Dec.{eqb}
 use lib.IntN.{pos, ℤ}
 use lib.ListN.{length}
-use borrow.Author.Tests.{le-ltb, ltb-false}
+use borrow.Author.Tests.{le-ltb, ltb-false, not-false}
 use Rattle.lists.specs.Lists.{All}
 use Rattle.strict.specs.Strict.{Log}
 use Rattle.strict.specs.Tiles.{member}
@@ -35,7 +35,7 @@ use Rattle.rectangles.specs.declared.Rectangle.{Rectangle}
 
 pub numbered-rectangle : (w : World) (job : ℕ) (p : Procedure) (r : Rectangle) → All Numbered (rectangleRefusals w job p r)
 numbered-rectangle w job p r =
-    (refl, (refl, (refl, (refl, (refl, (held-numbered (firstHeld (w .session .rule) (state w .book) job p (keys (listed r))), (refl, (refl, (refl, tt)))))))))
+    (refl, (refl, (refl, (refl, (refl, (refl, (held-numbered (firstHeld (w .session .rule) (state w .book) job p (keys (listed r))), (refl, (refl, (refl, tt))))))))))
 
 module _ (w : World) (job : ℕ) (change : Change) (r : Rectangle) where
   abbrev p : Procedure
@@ -56,7 +56,7 @@ module _ (w : World) (job : ℕ) (change : Change) (r : Rectangle) where
       held = firstHeld (w .session .rule) (state w .book) job p (keys (listed r))
 
       turnless : Turnless (rectangleRefusals w job p r)
-      turnless = (zeros, (zeros, (zeros, (zeros, (zeros, (held-turnless held, (zeros, (zeros, (zeros, tt)))))))))
+      turnless = (zeros, (zeros, (zeros, (zeros, (zeros, (zeros, (held-turnless held, (zeros, (zeros, (zeros, tt))))))))))
 
   held-among : (o : Option ℕ) → member (refuseHeld o .says .number) refusingRectangle ≡ true
   held-among none = refl
@@ -66,7 +66,7 @@ module _ (w : World) (job : ℕ) (change : Change) (r : Rectangle) where
   unfolding rectangleCall
   told-among =
       decided-among refusingRectangle (rectangleRefusals w job p r) (covered r)
-      (refl, (refl, (refl, (refl, (refl, (held-among (firstHeld (w .session .rule) (state w .book) job p (keys (listed r))), (refl, (refl, (refl, tt))))))))) refl
+      (refl, (refl, (refl, (refl, (refl, (refl, (held-among (firstHeld (w .session .rule) (state w .book) job p (keys (listed r))), (refl, (refl, (refl, tt)))))))))) refl
 
   -- told 0 is that no refusal applies
   pub rectangle-accepted : (rectangleCall w job change r .told .number ≡ 0) ↔ Passed (rectangleRefusals w job p r)
@@ -85,11 +85,11 @@ module _ (w : World) (job : ℕ) (change : Change) (r : Rectangle) where
         λ ok. let h = rectangle-accepted .0 ok in
             record {
               serves = v .0 (h .0, (h .1 .0, (h .1 .1 .0, tt)));
-              shaped = record { in-range = h .1 .1 .1 .0; well-formed = h .1 .1 .1 .1 .0 };
-              whole-list = h .1 .1 .1 .1 .1;
+              shaped = record { of-edition = not-false _ (h .1 .1 .1 .0); in-range = h .1 .1 .1 .1 .0; well-formed = h .1 .1 .1 .1 .1 .0 };
+              whole-list = h .1 .1 .1 .1 .1 .1;
             },
         λ c. let h = v .1 (c .serves) in
-            rectangle-accepted .1 (h .0, (h .1 .0, (h .1 .1 .0, (c .shaped .in-range, (c .shaped .well-formed, c .whole-list))))),
+            rectangle-accepted .1 (h .0, (h .1 .0, (h .1 .1 .0, (ap not (c .shaped .of-edition), (c .shaped .in-range, (c .shaped .well-formed, c .whole-list)))))),
       )
 
   pub done-shaped : rectangleCall w job change r .told .number ≡ 0 → Shaped r

@@ -25,6 +25,7 @@ use Rattle.service.specs.Calls.{concluded, keyedRefusals, operationCall}
 use Rattle.service.specs.Claims.{ChangedByOther, NoRoomByJob, Placeless, Serves, holderIn, operationBytes}
 use Rattle.service.specs.Entry.{jobIn, keyIn, kindIn, opIn}
 use Rattle.service.specs.Laws.Entries.{changes-kind}
+use Rattle.service.specs.Laws.Keys.{keyed-edition}
 use Rattle.service.specs.Laws.Soundness.{sound-is}
 use Rattle.service.specs.Laws.Telling.{found-is, held-numbered, held-six, holder-told, not-held, some-not-none, told-exactly, told-whole, told-zero}
 use Rattle.service.specs.Limits.{lastJob}
@@ -115,7 +116,7 @@ place-wanted Del false d = (λ e. never (sym e), λ c. never (sym (ap (λ q. eqb
 place-wanted Mem true d = (λ e. never (sym e), λ c. never (c .1))
 place-wanted Mem false d = (λ e. never (sym e), λ c. never (sym (ap (λ q. eqb (kind q false) 1) (c .0))))
 
--- PAST THE FIRST FOUR: 1, 2, 3 and 5
+-- PAST THE FIRST FIVE: 1, 2, 3, 14 and 5
 module _ (w : World) (job : ℕ) (p : Procedure) (a : Address) (k : ℕ) (v : Serves w job) (has-key : keyOf a ≡ some k) where
   abbrev number : ℕ
   number = operationCall w job p a .told .number
@@ -135,7 +136,7 @@ module _ (w : World) (job : ℕ) (p : Procedure) (a : Address) (k : ℕ) (v : Se
 
   told-is : operationCall w job p a .told ≡ decided (keyedRefusals w job p k) answered
   unfolding concluded
-  told-is = rw (v .is-sound-there, le-ltb lastJob job (v .small), v .is-open, has-key)
+  told-is = rw (v .is-sound-there, le-ltb lastJob job (v .small), v .is-open, keyed-edition a k has-key .0, has-key)
 
   number-is : number ≡ decided (keyedRefusals w job p k) answered .number
   number-is = ap (λ (t : Told). t .number) told-is
