@@ -1,13 +1,28 @@
 // Tile addresses and their keys. What they promise is in service's specs/Tile.antt.
 ghost use mathlib.Core.Path.{_≡_};
+ghost use mathlib.Core.Bool.{true};
+ghost use lib.IntN.{pos};
 ghost use Prim.Native.Nat.{_<_, _^_, _≤_};
-ghost use Rattle.service.specs.Tile.{addressCall, around, isKey, keyAt, placed, placedAt, positionIn, turnsOf};
+ghost use Rattle.service.specs.Tile.{addressCall, addressOf, around, isEdition, isKey, northRow, packKey, placed, positionIn, turnsOf};
 ghost use Rattle.address.specs.Columns.{columnsByZoom};
+ghost use Rattle.address.specs.Rows.{hasRow};
 use service::Address;
 use service::COLUMN_FACTOR;
 use service::Located;
+use service::NORTH_EDITION;
 use service::Position;
+use service::SOUTH_EDITION;
 use service::ZOOM_FACTOR;
+
+// Whether there is such an edition.
+fn is_edition(edition: u8) -> bool
+    ensures { λ r. ⌜ r ≡ isEdition edition ⌝ }
+{
+    if edition == SOUTH_EDITION {
+        return true;
+    }
+    edition == NORTH_EDITION
+}
 
 // A level of the map: 2^zoom columns, counted eastward from 180 degrees west, and as many rows from the north.
 pub struct Level {
@@ -53,28 +68,56 @@ impl Level {
         }
     }
 
-    // The key of a column and a row of this level, with the turns of the column.
-    pub fn key(self, column: i32, row: i32) -> Located
-        ensures { λ r. ⌜ placed r ≡ placedAt (keyAt (self .zoom) column row) (turnsOf column (2 ^ (self .zoom))) ⌝ }
+    // Whether there is such a level, and it has this row.
+    fn has_row(self, row: i32) -> bool
+        ensures { λ r. ⌜ r ≡ hasRow (self .zoom) row ⌝ }
     {
         let zoom = self.zoom;
         if row < 0 {
-            return Located::Refused;
+            return false;
         }
         if zoom < Level::LOWEST {
-            return Located::Refused;
+            return false;
         }
         if Level::HIGHEST < zoom {
+            return false;
+        }
+        (row as u32) < self.columns()
+    }
+
+    // A row of this level counted from the north.
+    fn north_row(self, edition: u8, row: i32) -> u32
+        requires { ⌜ hasRow (self .zoom) row ≡ true ⌝ }
+        ensures { λ r. ⌜ pos r ≡ northRow edition (self .zoom) row ⌝ }
+    {
+        if edition == SOUTH_EDITION {
+            return self.columns() - 1 - row as u32;
+        }
+        row as u32
+    }
+
+    // The key of a column and a row of this level.
+    fn key(self, column: i32, row: u32) -> u32
+        requires { ⌜ (self .zoom ≤ 14) × (row < 2 ^ (self .zoom)) ⌝ }
+        ensures { λ r. ⌜ r ≡ packKey (self .zoom) (around column (2 ^ (self .zoom))) row ⌝ }
+    {
+        let zoom = self.zoom;
+        zoom as u32 * ZOOM_FACTOR + Level::wrapped(column, self.columns()) * COLUMN_FACTOR + row
+    }
+
+    // The key and the turns of a column and a row. An edition that is none is refused, then a zoom or a row out of its range; only then is the row turned.
+    fn place(self, edition: u8, column: i32, row: i32) -> Located
+        ensures { λ r. ⌜ placed r ≡ addressCall (addressOf edition (self .zoom) column row) ⌝ }
+    {
+        if !is_edition(edition) {
+            return Located::NoEdition;
+        }
+        if !self.has_row(row) {
             return Located::Refused;
         }
-        let columns = self.columns();
-        let y = row as u32;
-        if columns <= y {
-            return Located::Refused;
-        }
-        let x = Level::wrapped(column, columns);
+        let north = self.north_row(edition, row);
         Located::Key {
-            key: zoom as u32 * ZOOM_FACTOR + x * COLUMN_FACTOR + y,
+            key: self.key(column, north),
             turns: self.turns(column),
         }
     }
@@ -138,12 +181,12 @@ pub fn is_key_by(columns: &[u32; 16], k: u32) -> bool
     k % COLUMN_FACTOR < bound
 }
 
-// The address step: every column is accepted, a zoom or a row out of its range is refused.
+// The address step: every column is accepted.
 pub fn locate(a: Address) -> Located
     ensures { λ r. ⌜ placed r ≡ addressCall a ⌝ }
 {
     let level = Level { zoom: a.zoom };
-    level.key(a.column, a.row)
+    level.place(a.edition, a.column, a.row)
 }
 
 // Zoom, column and row of a key.

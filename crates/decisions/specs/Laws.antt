@@ -21,7 +21,7 @@ use Rattle.service.specs.Tile.{Placed, addressCall, placed}
 use Rattle.service.specs.Told.{Refusal, bare, decided, done, refuse, refused, told}
 use Rattle.service.specs.World.{World, freeBytes, state, usedTiles}
 use Rattle.service.specs.declared.Address.{Address}
-use Rattle.service.specs.declared.Located.the-variants.{Key, Refused}
+use Rattle.service.specs.declared.Located.the-variants.{Key, NoEdition, Refused}
 use Rattle.service.specs.declared.Reply.the-variants as reply
 use Rattle.service.specs.declared.Reply.{Reply}
 use Rattle.service.specs.declared.Told.{Told}
@@ -112,10 +112,10 @@ gate-refuses (r ∷ rs) t u z n = go (r .applies) n (gate-refuses rs t u z)
     go true n ih = refl
     go false n ih = ih n
 
--- AN OPERATION: its first three refusals are those of an end, then 5, then the last
+-- AN OPERATION: its first three refusals are those of an end, then 14 and 5, then the last
 module _ (w : World) (job : ℕ) (p : Procedure) (a : Address) where
   abbrev rest : List Refusal
-  rest = refuse 5 (eqb (addressCall a .number) 5) ∷ keyedRefusals w job p (addressCall a .key)
+  rest = refuse 14 (eqb (addressCall a .number) 14) ∷ refuse 5 (eqb (addressCall a .number) 5) ∷ keyedRefusals w job p (addressCall a .key)
 
   -- where the gate refuses
   pub decides-gate : (r : Reply) → told r ≡ decided (endRefusals w job) (done false (pos 0)) → eqb (told r .number) 0 ≡ false → Decides w job p a (Refuse r)
@@ -132,12 +132,15 @@ module _ (w : World) (job : ℕ) (p : Procedure) (a : Address) where
     passed-sound = sound-is w (not-false (soundB w) (unrefused (endRefusals w job) (gate-passed gate is zero) .0))
 
     abbrev following : Placed → List Refusal
-    following x = refuse 5 (eqb (x .number) 5) ∷ keyedRefusals w job p (x .key)
+    following x = refuse 14 (eqb (x .number) 14) ∷ refuse 5 (eqb (x .number) 5) ∷ keyedRefusals w job p (x .key)
 
     after-gate : (x : Placed) → x ≡ addressCall a → (t : Told) → decided (following x) t ≡ decided (operationRefusals w job p a) t
     after-gate x same t =
         ap (λ (y : Placed). decided (following y) t) same
         ∙ sym (decided-append (endRefusals w job) rest t ∙ decided-none (endRefusals w job) (decided rest t) (gate-passed gate is zero))
+
+    pub decides-no-edition : placed NoEdition ≡ addressCall a → Decides w job p a (Refuse reply.NoEdition)
+    decides-no-edition h = (after-gate (placed NoEdition) h, refl)
 
     pub decides-no-key : placed Refused ≡ addressCall a → Decides w job p a (Refuse reply.OutOfRange)
     decides-no-key h = (after-gate (placed Refused) h, refl)

@@ -71,6 +71,7 @@ pub fn numbers(reply: Reply) -> Told
         Reply::NoOperationRoom => bare_number(8),
         Reply::NoJournalRoom => bare_number(9),
         Reply::Misshapen => bare_number(13),
+        Reply::NoEdition => bare_number(14),
     }
 }
 
@@ -186,6 +187,7 @@ pub fn operation_decision(
         return Decision::Refuse(gate);
     }
     match address::locate(address) {
+        Located::NoEdition => Decision::Refuse(Reply::NoEdition),
         Located::Refused => Decision::Refuse(Reply::OutOfRange),
         Located::Key { key, turns } => judge_keyed(
             session,

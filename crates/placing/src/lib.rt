@@ -173,6 +173,10 @@ fn carry_shaped(
         ≡ rectangleCall (world session (now (tiles .entry)) (now (operations .entry)) (now (journal .entry))) job change r ⌝ }
 {
     match shapes::shape_of(r) {
+        Shape::NoEdition => Outcome {
+            reply: Reply::NoEdition,
+            session,
+        },
         Shape::OutOfRange => Outcome {
             reply: Reply::OutOfRange,
             session,

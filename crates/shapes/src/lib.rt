@@ -1,12 +1,12 @@
 // The shape of a rectangle, and the list of its keys. Nothing of a session is looked at here.
 ghost use mathlib.Core.Path.{_≡_};
-ghost use Prim.Native.Nat.{_<_, _^_, _≤_};
+ghost use Prim.Native.Nat.{_-_, _<_, _^_, _≤_, suc};
 ghost use lib.ListN.{length, take};
 ghost use lib.Signed.{mag};
-ghost use Rattle.service.specs.Tile.{addressCall, placed};
+ghost use Rattle.service.specs.Tile.{addressCall, addressOf, placed, rowIn};
 ghost use Rattle.rectangles.specs.Rectangles as report;
 ghost use Rattle.rectangles.specs.Rectangles.{mostInRectangle};
-ghost use Rattle.shapes.specs.Shaping.{Measures, Shapes, Steps, cornerAt, stepped};
+ghost use Rattle.shapes.specs.Shaping.{Measures, Shapes, Steps, stepped};
 ghost use Rattle.shapes.specs.declared.Shape.the-variants.{Fine};
 use rectangles::MOST_IN_RECTANGLE;
 use rectangles::Rectangle;
@@ -15,8 +15,9 @@ use service::COLUMN_FACTOR;
 use service::Located;
 use service::ZOOM_FACTOR;
 
-// A rectangle's shape: refused by 5, by 13, or the key of its first tile, its height and how many tiles it has.
+// A rectangle's shape: refused by 14, by 5, by 13, or the key of its first tile, its height and how many tiles it has.
 pub enum Shape {
+    NoEdition,
     OutOfRange,
     Misshapen,
     Fine { corner: u32, height: u32, n: u32 },
@@ -65,10 +66,27 @@ fn span(a: i32, b: i32) -> usize
 }
 
 // The key of one corner.
-fn corner_key(zoom: u8, column: i32, row: i32) -> Located
-    ensures { λ r. ⌜ placed r ≡ addressCall (cornerAt zoom column row) ⌝ }
+fn corner_key(edition: u8, zoom: u8, column: i32, row: i32) -> Located
+    ensures { λ r. ⌜ placed r ≡ addressCall (addressOf edition zoom column row) ⌝ }
 {
-    address::locate(Address { zoom, column, row })
+    address::locate(Address {
+        edition,
+        zoom,
+        column,
+        row,
+    })
+}
+
+// How many rows there are from that of one key to that of another. Keys hold rows counted from the north.
+fn rows_between(top: u32, bottom: u32) -> usize
+    ensures { λ r. ⌜ r ≡ suc (rowIn bottom) - rowIn top ⌝ }
+{
+    let north = (top % COLUMN_FACTOR) as usize;
+    let south = (bottom % COLUMN_FACTOR) as usize;
+    if south < north {
+        return 0;
+    }
+    south + 1 - north
 }
 
 // Judges width and height.
@@ -103,24 +121,25 @@ fn measured(zoom: u8, corner: u32, width: usize, height: usize) -> Shape
 pub fn shape_of(r: Rectangle) -> Shape
     ensures { λ s. ⌜ Shapes r s ⌝ }
 {
+    let edition = r.edition;
     let zoom = r.zoom;
     let west = r.west;
     let east = r.east;
     let top = r.top;
     let bottom = r.bottom;
-    match corner_key(zoom, west, top) {
+    match corner_key(edition, zoom, west, top) {
+        Located::NoEdition => Shape::NoEdition,
         Located::Refused => Shape::OutOfRange,
         Located::Key {
             key: corner,
             turns: _,
-        } => match corner_key(zoom, east, bottom) {
+        } => match corner_key(edition, zoom, east, bottom) {
+            Located::NoEdition => Shape::NoEdition,
             Located::Refused => Shape::OutOfRange,
-            Located::Key { key: _, turns: _ } => measured(
-                zoom,
-                corner,
-                span(west, east),
-                span(top, bottom),
-            ),
+            Located::Key {
+                key: last,
+                turns: _,
+            } => measured(zoom, corner, span(west, east), rows_between(corner, last)),
         },
     }
 }

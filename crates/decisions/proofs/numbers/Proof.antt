@@ -67,6 +67,12 @@ enum-told-9 c = search needs
 bare-number-requires-9 : tie.Need-bare-number-requires-9
 bare-number-requires-9 c κs = search needs
 
+enum-told-10 : tie.Need-enum-told-10
+enum-told-10 c = search needs
+
+bare-number-requires-10 : tie.Need-bare-number-requires-10
+bare-number-requires-10 c κs = search needs
+
 returns : tie.Need-returns
 returns c =
     let bounds = c .known-told .given in
@@ -103,6 +109,9 @@ returns-10 c = rw (c .before .enum-told8 .given .1) (c .bare-number8 .ensures)
 returns-11 : tie.Need-returns-11
 returns-11 c = rw (c .before .enum-told9 .given .1) (c .bare-number9 .ensures)
 
+returns-12 : tie.Need-returns-12
+returns-12 c = rw (c .before .enum-told10 .given .1) (c .bare-number10 .ensures)
+
 pub numbers-spec : {M : Type 1} → statement M
 numbers-spec =
     tie.close
@@ -128,6 +137,8 @@ numbers-spec =
     bare-number-requires-8
     enum-told-9
     bare-number-requires-9
+    enum-told-10
+    bare-number-requires-10
     returns
     returns-2
     returns-3
@@ -138,4 +149,5 @@ numbers-spec =
     returns-8
     returns-9
     returns-10
-    returns-11)
+    returns-11
+    returns-12)

@@ -10,7 +10,7 @@ use Rattle.service.specs.Told.{told}
 use Rattle.service.specs.World.{World, world}
 use Rattle.address.proofs.Signed.{field-read}
 use Rattle.decisions.proofs.operation_decision.Statement.{statement}
-use Rattle.decisions.specs.Laws.{decides-gate, decides-judged, decides-no-key, passed-sound}
+use Rattle.decisions.specs.Laws.{decides-gate, decides-judged, decides-no-edition, decides-no-key, passed-sound}
 use Rattle.decisions.proofs.operation_decision.Tie as tie
 
 -- what the function was given
@@ -38,6 +38,9 @@ locate-requires c κs = search needs
 enum-told : tie.Need-enum-told
 enum-told c = search needs
 
+enum-told-2 : tie.Need-enum-told-2
+enum-told-2 c = search needs
+
 enum-known-key : tie.Need-enum-known-key
 enum-known-key c = search needs
 
@@ -53,11 +56,19 @@ returns-2 c =
     let e = c .before .before .before in
     let s = e .before .before .before .before .before .before in
     let gate = e .before .before .end-reply in
-    decides-no-key (given s) (s .args .job) (s .args .procedure) (s .args .address) (gate .result) (gate .ensures) (zero e)
+    decides-no-edition (given s) (s .args .job) (s .args .procedure) (s .args .address) (gate .result) (gate .ensures) (zero e)
     (ap placed (sym (c .enum-told .given .1)) ∙ c .before .before .locate .ensures)
 
 returns-3 : tie.Need-returns-3
 returns-3 c =
+    let e = c .before .before .before in
+    let s = e .before .before .before .before .before .before in
+    let gate = e .before .before .end-reply in
+    decides-no-key (given s) (s .args .job) (s .args .procedure) (s .args .address) (gate .result) (gate .ensures) (zero e)
+    (ap placed (sym (c .enum-told2 .given .1)) ∙ c .before .before .locate .ensures)
+
+returns-4 : tie.Need-returns-4
+returns-4 c =
     let key = c .before .before in
     let e = key .before .before .before in
     let s = e .before .before .before .before .before .before in
@@ -75,7 +86,9 @@ operation-decision-spec =
     returns
     locate-requires
     enum-told
+    enum-told-2
     enum-known-key
     judge-keyed-requires
     returns-2
-    returns-3)
+    returns-3
+    returns-4)

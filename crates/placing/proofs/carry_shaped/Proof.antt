@@ -1,4 +1,4 @@
--- `placing::carry_shaped` meets its contract: 5, 13, or the list
+-- `placing::carry_shaped` meets its contract: 14, 5, 13, or the list
 use mathlib.Core.Path.{_∙_, ap, subst}
 use borrow.Author.Needs.{needs}
 use denote.Ref.{now}
@@ -9,7 +9,7 @@ use Rattle.shapes.specs.Shaping.{Shapes}
 use Rattle.shapes.specs.declared.Shape.the-variants.{Fine}
 use Rattle.placing.proofs.carry_shaped.Statement.{statement}
 use Rattle.placing.proofs.carry_shaped.Tie as tie
-use Rattle.placing.specs.Laws.Calling.{tells-five, tells-list, tells-thirteen}
+use Rattle.placing.specs.Laws.Calling.{tells-five, tells-fourteen, tells-list, tells-thirteen}
 use Rattle.placing.specs.Passes.{listCall}
 
 -- what the function was given
@@ -24,6 +24,9 @@ enum-told c = search needs
 
 enum-told-2 : tie.Need-enum-told-2
 enum-told-2 c = search needs
+
+enum-told-3 : tie.Need-enum-told-3
+enum-told-3 c = search needs
 
 enum-known-corner : tie.Need-enum-known-corner
 enum-known-corner c = search needs
@@ -53,12 +56,17 @@ with-turns-requires c κs =
 returns : tie.Need-returns
 returns c =
     let s = c .before .before .before .before .before .before in
-    tells-five (given s) (s .args .job) (s .args .change) (s .args .r) (s .pre) (subst (Shapes (s .args .r)) (c .enum-told .given .1) (c .before .before .shape-of .ensures))
+    tells-fourteen (given s) (s .args .job) (s .args .change) (s .args .r) (s .pre) (subst (Shapes (s .args .r)) (c .enum-told .given .1) (c .before .before .shape-of .ensures))
 
 returns-2 : tie.Need-returns-2
 returns-2 c =
     let s = c .before .before .before .before .before .before in
-    tells-thirteen (given s) (s .args .job) (s .args .change) (s .args .r) (s .pre) (subst (Shapes (s .args .r)) (c .enum-told2 .given .1) (c .before .before .shape-of .ensures))
+    tells-five (given s) (s .args .job) (s .args .change) (s .args .r) (s .pre) (subst (Shapes (s .args .r)) (c .enum-told2 .given .1) (c .before .before .shape-of .ensures))
+
+returns-3 : tie.Need-returns-3
+returns-3 c =
+    let s = c .before .before .before .before .before .before in
+    tells-thirteen (given s) (s .args .job) (s .args .change) (s .args .r) (s .pre) (subst (Shapes (s .args .r)) (c .enum-told3 .given .1) (c .before .before .shape-of .ensures))
 
 same-length : tie.Need-same-length
 same-length c = search needs
@@ -69,8 +77,8 @@ same-length-2 c = search needs
 same-length-3 : tie.Need-same-length-3
 same-length-3 c = search needs
 
-returns-3 : tie.Need-returns-3
-returns-3 c =
+returns-4 : tie.Need-returns-4
+returns-4 c =
     let carried = c .before .before .before .before .before .before .before .before in
     let k = carried .before .before .before .before in
     let s = k .before .before .before .before .before .before .before .before in
@@ -84,13 +92,15 @@ carry-shaped-spec =
     shape-of-requires
     enum-told
     enum-told-2
+    enum-told-3
     enum-known-corner
     procedure-for-requires
     carry-rectangle-requires
     with-turns-requires
     returns
     returns-2
+    returns-3
     same-length
     same-length-2
     same-length-3
-    returns-3)
+    returns-4)

@@ -1,5 +1,5 @@
 -- From the gate and the shape of a rectangle to what the call promises
-use mathlib.Core.Bool.{Bool, cond, false, true}
+use mathlib.Core.Bool.{Bool, cond, false, not, true}
 use mathlib.Core.List.{List, [], _∷_}
 use mathlib.Core.Path.{_∙_, _≡_, ap, ap₂, refl, subst, sym}
 use Prim.Native.Nat.{_≤_, ℕ}
@@ -21,7 +21,7 @@ use Rattle.service.specs.declared.Told.{Told}
 use Rattle.decisions.specs.Laws.{decided-append, gate-refuses}
 use Rattle.rectangles.specs.Claims.{Apart, Shaped}
 use Rattle.rectangles.specs.Laws.Tiles.{all-apart}
-use Rattle.rectangles.specs.Rectangles.{carriedAll, covered, keys, listRefusals, listed, misshapen, outOfRange, procedureFor, rectangleCall, rectangleRefusals}
+use Rattle.rectangles.specs.Rectangles.{carriedAll, covered, keys, listRefusals, listed, misnamed, misshapen, outOfRange, procedureFor, rectangleCall, rectangleRefusals}
 use Rattle.rectangles.specs.declared.Change.{Change}
 use Rattle.rectangles.specs.declared.Rectangle.{Rectangle}
 use Rattle.shapes.specs.Laws.Listed.{all-valid, shape-few}
@@ -64,9 +64,9 @@ module _ (w : World) (job : ℕ) (change : Change) (r : Rectangle) where
   abbrev ks : List ℕ
   ks = keys (listed r)
 
-  -- 5 and 13, and those of the list
+  -- 14, 5 and 13, and those of the list
   abbrev later : List Refusal
-  later = refuse 5 (outOfRange r) ∷ refuse 13 (misshapen r) ∷ listRefusals w job p ks
+  later = refuse 14 (misnamed r) ∷ refuse 5 (outOfRange r) ∷ refuse 13 (misshapen r) ∷ listRefusals w job p ks
 
   call-is : rectangleCall w job change r ≡ listAfter w job p ks (decided (rectangleRefusals w job p r) (covered r))
   unfolding rectangleCall
@@ -84,14 +84,19 @@ module _ (w : World) (job : ℕ) (change : Change) (r : Rectangle) where
     past-gate : decided (rectangleRefusals w job p r) (covered r) ≡ decided later (covered r)
     past-gate = rw (ready .is-sound-there, le-ltb 63 job (ready .small), ready .is-open)
 
-    pub tells-five : outOfRange r ≡ true → record { told = bare 5; after = w } ≡ rectangleCall w job change r
-    tells-five e =
-        let t : bare 5 ≡ decided (rectangleRefusals w job p r) (covered r) = sym (past-gate ∙ rw e) in
+    pub tells-fourteen : misnamed r ≡ true → record { told = bare 14; after = w } ≡ rectangleCall w job change r
+    tells-fourteen e =
+        let t : bare 14 ≡ decided (rectangleRefusals w job p r) (covered r) = sym (past-gate ∙ rw e) in
         ap (listAfter w job p ks) t ∙ sym call-is
 
-    pub tells-thirteen : (outOfRange r ≡ false) × (misshapen r ≡ true) → record { told = bare 13; after = w } ≡ rectangleCall w job change r
+    pub tells-five : (misnamed r ≡ false) × (outOfRange r ≡ true) → record { told = bare 5; after = w } ≡ rectangleCall w job change r
+    tells-five e =
+        let t : bare 5 ≡ decided (rectangleRefusals w job p r) (covered r) = sym (past-gate ∙ rw (e .0, e .1)) in
+        ap (listAfter w job p ks) t ∙ sym call-is
+
+    pub tells-thirteen : (misnamed r ≡ false) × (outOfRange r ≡ false) × (misshapen r ≡ true) → record { told = bare 13; after = w } ≡ rectangleCall w job change r
     tells-thirteen e =
-        let t : bare 13 ≡ decided (rectangleRefusals w job p r) (covered r) = sym (past-gate ∙ rw (e .0, e .1)) in
+        let t : bare 13 ≡ decided (rectangleRefusals w job p r) (covered r) = sym (past-gate ∙ rw (e .0, e .1, e .2)) in
         ap (listAfter w job p ks) t ∙ sym call-is
 
     -- a list that is done tells the turns, and a refusal what it told
@@ -102,7 +107,7 @@ module _ (w : World) (job : ℕ) (change : Change) (r : Rectangle) where
         let list : Told = decided (listRefusals w job p ks) (bare 0) in
         let whole : turnsAdded r list ≡ decided (rectangleRefusals w job p r) (covered r) =
         sym (turns-added r (listRefusals w job p ks) (list-numbered w job p ks))
-        ∙ sym (past-gate ∙ ap₂ (λ a b. decided (refuse 5 a ∷ refuse 13 b ∷ listRefusals w job p ks) (covered r)) (s .in-range) (s .well-formed)) in
+        ∙ sym (past-gate ∙ (λ i. decided (refuse 14 (not (s .of-edition i)) ∷ refuse 5 (s .in-range i) ∷ refuse 13 (s .well-formed i) ∷ listRefusals w job p ks) (covered r))) in
         ap {B = Reported} (λ y. record { told = y; after = v }) added
         ∙ ap (λ (y : Reported). record { told = turnsAdded r (y .told); after = y .after }) e
         ∙ ap {B = Reported} (λ b. record { told = turnsAdded r list; after = cond b (carriedAll w job p ks) w }) (same-number list (eqb (list .number) 0) refl)

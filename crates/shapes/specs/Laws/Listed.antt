@@ -15,14 +15,14 @@ use lib.Seq.{take-suc-set}
 use borrow.Author.Tests.{ltb-false}
 use Rattle.lists.specs.Lists.{All}
 use Rattle.lists.specs.Truth.{or-left, or-right}
-use Rattle.service.specs.Laws.Keys.{address-key, around-lt, column-back, keyed-at, row-back, size-le}
-use Rattle.service.specs.Tile.{around, columnIn, isKey, keyAt, keyOf, packKey, rowIn}
+use Rattle.service.specs.Laws.Keys.{around-lt, column-back, keyed-at, row-back, size-le}
+use Rattle.service.specs.Tile.{around, columnIn, isKey, keyAt, packKey, rowIn}
 use Rattle.rectangles.specs.Claims.{Shaped}
 use Rattle.rectangles.specs.Laws.Listing.{all-sequence, map-sequence}
-use Rattle.rectangles.specs.Laws.Tiles.{Extent, extent, key-stepped, placed-key, tile-placed}
-use Rattle.rectangles.specs.Rectangles.{area, height, keyFor, keys, listed, sequence, span, tileAt, unplaced, width}
+use Rattle.rectangles.specs.Laws.Tiles.{Extent, extent, key-stepped, placed-row, tile-valid}
+use Rattle.rectangles.specs.Rectangles.{area, firstCorner, height, keyFor, keys, lastCorner, listed, sequence, span, tileAt, topRow, unplaced, width}
 use Rattle.rectangles.specs.declared.Rectangle.{Rectangle}
-use Rattle.shapes.specs.Shaping.{Shapes, Steps, cornerAt, stepped}
+use Rattle.shapes.specs.Shaping.{Shapes, Steps, stepped}
 use Rattle.shapes.specs.declared.Shape.the-variants.{Fine}
 
 -- what the sums of a key need
@@ -52,23 +52,22 @@ sequence-same {A} f g e i (suc n) = ap₂ {C = List A} (λ x xs. x ∷ xs) (e i)
 
 module _ (r : Rectangle) (s : Shaped r) where
   abbrev corner : ℕ
-  corner = keyFor (cornerAt (r .zoom) (r .west) (r .top))
+  corner = keyFor (firstCorner r)
 
   abbrev x : Extent r
   x = extent r s
 
-  corner-keyed : keyAt (r .zoom) (r .west) (r .top) ≡ some corner
-  unfolding keyOf
+  corner-keyed : keyAt (r .zoom) (r .west) (topRow r) ≡ some corner
   corner-keyed =
-      placed-key (cornerAt (r .zoom) (r .west) (r .top))
-      (or-left (unplaced (cornerAt (r .zoom) (r .west) (r .top))) (unplaced (cornerAt (r .zoom) (r .east) (r .bottom))) (s .in-range))
+      placed-row (firstCorner r)
+      (or-left (unplaced (firstCorner r)) (unplaced (lastCorner r)) (s .in-range))
 
   column-is : columnIn corner ≡ around (r .west) (2 ^ (r .zoom))
-  column-is = column-back (r .zoom) (r .west) (r .top) corner (keyed-at (r .zoom) (r .west) (r .top) corner corner-keyed)
+  column-is = column-back (r .zoom) (r .west) (topRow r) corner (keyed-at (r .zoom) (r .west) (topRow r) corner corner-keyed)
 
   row-is : rowIn corner ≡ x .north
   row-is =
-      let a : pos (rowIn corner) ≡ pos (x .north) = row-back (r .zoom) (r .west) (r .top) corner (keyed-at (r .zoom) (r .west) (r .top) corner corner-keyed) ∙ x .north-is in
+      let a : pos (rowIn corner) ≡ pos (x .north) = row-back (r .zoom) (r .west) (topRow r) corner (keyed-at (r .zoom) (r .west) (topRow r) corner corner-keyed) ∙ x .north-is in
       cc
 
   steps-of : Steps (r .zoom) (2 ^ (r .zoom)) (columnIn corner) (rowIn corner) (height r)
@@ -96,7 +95,7 @@ module _ (r : Rectangle) (s : Shaped r) where
   pub all-valid : All (λ k. isKey k ≡ true) (keys (listed r))
   all-valid =
       subst (All (λ k. isKey k ≡ true)) (sym (map-sequence (tileAt r) keyFor 0 (area r)))
-      (all-sequence (λ i. keyFor (tileAt r i)) (λ k. isKey k ≡ true) 0 (area r) (λ i l u. address-key (tileAt r i) (tile-placed r s i)))
+      (all-sequence (λ i. keyFor (tileAt r i)) (λ k. isKey k ≡ true) 0 (area r) (λ i l u. tile-valid r s i))
 
   pub few-tiles : area r ≤ 256
   few-tiles =

@@ -1,24 +1,24 @@
 -- What each test of the shape decides
-use mathlib.Core.Bool.{false, or-true, true}
-use mathlib.Core.Option.{Option, none, some}
-use mathlib.Core.Path.{_∙_, _≡_, ap, refl, sym}
-use Prim.Native.Nat.{_*_, _<_, _^_, _≤_, ℕ}
+use mathlib.Core.Bool.{false, not, or-true, true}
+use mathlib.Core.Path.{_∙_, _≡_, ap, ap₂, sym}
+use Prim.Native.Nat.{_*_, _-_, _<_, _^_, _≤_, suc, ℕ}
 use native.Mathlib.Nat.{mul-le-mul-right}
 use native.Mathlib.Omega.{arith}
 use lib.Dec.{eqb, ltb}
-use lib.IntN.{ℤ}
+use lib.IntN.{pos, ℤ}
 use borrow.Author.Tests.{eq-eqb, le-ltb, lt-ltb, ne-eqb}
-use Rattle.lists.specs.Truth.{both-false, never}
-use Rattle.service.specs.Laws.Keys.{keyed-at}
-use Rattle.service.specs.Tile.{Placed, addressCall, keyOf, placed, placedAt, turnsIn}
+use Rattle.lists.specs.Truth.{both-false}
+use Rattle.service.specs.Laws.Keys.{keyed-at, row-back, step-fourteen, step-named}
+use Rattle.service.specs.Tile.{Placed, addressCall, isEdition, northRow, placed, rowIn}
 use Rattle.service.specs.declared.Address.{Address}
 use Rattle.service.specs.declared.Located.{Located}
-use Rattle.service.specs.declared.Located.the-variants.{Key, Refused}
-use Rattle.rectangles.specs.Rectangles.{height, keyFor, unplaced, width}
+use Rattle.service.specs.declared.Located.the-variants.{Key, NoEdition, Refused}
+use Rattle.rectangles.specs.Laws.Tiles.{placed-row}
+use Rattle.rectangles.specs.Rectangles.{firstCorner, height, keyFor, lastCorner, span, unplaced, width}
 use Rattle.rectangles.specs.declared.Rectangle.{Rectangle}
-use Rattle.shapes.specs.Shaping.{Measures, Shapes, cornerAt, misfit}
+use Rattle.shapes.specs.Shaping.{Measures, Shapes, misfit}
 use Rattle.shapes.specs.declared.Shape.{Shape}
-use Rattle.shapes.specs.declared.Shape.the-variants.{Fine, Misshapen, OutOfRange}
+use Rattle.shapes.specs.declared.Shape.the-variants.{Fine, Misshapen, NoEdition, OutOfRange}
 
 module _ (zoom w h : ℕ) where
   pub no-width : w ≡ 0 → misfit zoom w h ≡ true
@@ -40,23 +40,40 @@ module _ (zoom w h : ℕ) where
   well a b c d = both-false (ne-eqb w 0 a) (both-false (ne-eqb h 0 b) (both-false (le-ltb (2 ^ zoom) w c) (le-ltb 256 (w * h) d)))
 
 -- the address step, as it was told
-pub refused-so : (a : Address) (v : Located) → placed v ≡ addressCall a → v ≡ Refused → unplaced a ≡ true
-refused-so a v e is = ap (λ (x : Placed). eqb (x .number) 5) (sym e) ∙ ap (λ l. eqb (placed l .number) 5) is
+module _ (a : Address) (v : Located) (told : placed v ≡ addressCall a) where
+  numbered : (n : ℕ) → placed v .number ≡ n → addressCall a .number ≡ n
+  numbered n e = sym (ap (λ (x : Placed). x .number) told) ∙ e
 
-pub keyed-so : (a : Address) (v : Located) (k : ℕ) (turns : ℤ) → placed v ≡ addressCall a → v ≡ Key k turns → (unplaced a ≡ false) × (k ≡ keyFor a)
-keyed-so a v k turns e is =
-    (ap (λ (x : Placed). eqb (x .number) 5) (sym e) ∙ ap (λ l. eqb (placed l .number) 5) is, sym (ap (λ l. placed l .key) is) ∙ ap (λ (x : Placed). x .key) e)
+  pub misnamed-so : v ≡ NoEdition → isEdition (a .edition) ≡ false
+  misnamed-so is = step-fourteen a .0 (eq-eqb _ 14 (numbered 14 (ap (λ l. placed l .number) is)))
+
+  pub refused-so : v ≡ Refused → (isEdition (a .edition) ≡ true) × (unplaced a ≡ true)
+  refused-so is =
+      let five = numbered 5 (ap (λ l. placed l .number) is) in
+      (step-named a (ap (λ n. eqb n 14) five), ap (λ n. not (eqb n 0)) five)
+
+  pub keyed-so : (k : ℕ) (turns : ℤ) → v ≡ Key k turns → (isEdition (a .edition) ≡ true) × (unplaced a ≡ false) × (k ≡ keyFor a)
+  keyed-so k turns is =
+      let zero = numbered 0 (ap (λ l. placed l .number) is) in
+      (step-named a (ap (λ n. eqb n 14) zero), ap (λ n. not (eqb n 0)) zero, sym (ap (λ l. placed l .key) is) ∙ ap (λ (x : Placed). x .key) told)
 
 pub zoom-small : (a : Address) → unplaced a ≡ false → a .zoom ≤ 14
-unfolding keyOf
-zoom-small a e = go (keyOf a) refl e
-  where
-    go : (o : Option ℕ) → keyOf a ≡ o → eqb (placedAt o (turnsIn a) .number) 5 ≡ false → a .zoom ≤ 14
-    go (some k) h e = keyed-at (a .zoom) (a .column) (a .row) k h .high
-    go none h e = never e
+zoom-small a e = keyed-at (a .zoom) (a .column) (northRow (a .edition) (a .zoom) (a .row)) (keyFor a) (placed-row a e) .high
 
-pub shapes-measured : (r : Rectangle) (corner : ℕ) (s : Shape) → unplaced (cornerAt (r .zoom) (r .west) (r .top)) ≡ false → unplaced (cornerAt (r .zoom) (r .east) (r .bottom)) ≡ false
-    → corner ≡ keyFor (cornerAt (r .zoom) (r .west) (r .top)) → Measures (r .zoom) corner (width r) (height r) s → Shapes r s
-shapes-measured r corner OutOfRange a b k m = absurd m
-shapes-measured r corner Misshapen a b k m = (both-false a b, m)
-shapes-measured r corner (Fine c h n) a b k m = (record { in-range = both-false a b; well-formed = m .0 }, m .1 ∙ k, m .2, m .3)
+-- THE SHAPE, where the address step gives the keys of both corners
+module _ (r : Rectangle) where
+  -- the row of a corner's key is counted from the north
+  corner-row : (a : Address) → unplaced a ≡ false → northRow (a .edition) (a .zoom) (a .row) ≡ pos (rowIn (keyFor a))
+  corner-row a e =
+      let y = northRow (a .edition) (a .zoom) (a .row) in
+      sym (row-back (a .zoom) (a .column) y (keyFor a) (keyed-at (a .zoom) (a .column) y (keyFor a) (placed-row a e)))
+
+  pub rows-height : unplaced (firstCorner r) ≡ false → unplaced (lastCorner r) ≡ false → suc (rowIn (keyFor (lastCorner r))) - rowIn (keyFor (firstCorner r)) ≡ height r
+  rows-height a b = sym (ap₂ span (corner-row (firstCorner r) a) (corner-row (lastCorner r) b))
+
+  pub shapes-measured : (corner : ℕ) (s : Shape) → isEdition (r .edition) ≡ true → unplaced (firstCorner r) ≡ false → unplaced (lastCorner r) ≡ false
+      → corner ≡ keyFor (firstCorner r) → Measures (r .zoom) corner (width r) (height r) s → Shapes r s
+  shapes-measured corner NoEdition known a b k m = absurd m
+  shapes-measured corner OutOfRange known a b k m = absurd m
+  shapes-measured corner Misshapen known a b k m = (ap not known, both-false a b, m)
+  shapes-measured corner (Fine c h n) known a b k m = (record { of-edition = known; in-range = both-false a b; well-formed = m .0 }, m .1 ∙ k, m .2, m .3)
