@@ -47,13 +47,15 @@ pub fn print_located(beginning: &[u8], located: Located) {
             print_named(b" key ", key as u64);
             print_signed(b" turns ", turns);
         }
-        Located::Refused => {
-            print_named(beginning, 5);
-            print_named(b" key ", 0);
-            print_named(b" turns ", 0);
-        }
+        Located::Refused => print_unplaced(beginning, 5),
+        Located::NoEdition => print_unplaced(beginning, 14),
     }
     print_line_end();
+}
+
+fn print_unplaced(beginning: &[u8], number: u64) {
+    print_named(beginning, number);
+    print(b" key 0 turns 0");
 }
 
 fn print_operation(operation: Operation) {

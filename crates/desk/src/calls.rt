@@ -8,24 +8,27 @@ use sanbirogu::Rectangle;
 use sanbirogu::Session;
 use script::Command;
 use script::Word;
+use script::byte_of;
 use script::job_of;
 use script::signed;
 
 fn operation_address(command: Command) -> Address {
     Address {
-        zoom: (command.values[1] % 256) as u8,
-        column: signed(command.values[2], command.negative[2]),
-        row: signed(command.values[3], command.negative[3]),
+        edition: byte_of(command.values[1]),
+        zoom: byte_of(command.values[2]),
+        column: signed(command.values[3], command.negative[3]),
+        row: signed(command.values[4], command.negative[4]),
     }
 }
 
 fn rectangle_of(command: Command) -> Rectangle {
     Rectangle {
-        zoom: (command.values[1] % 256) as u8,
-        west: signed(command.values[2], command.negative[2]),
-        east: signed(command.values[3], command.negative[3]),
-        top: signed(command.values[4], command.negative[4]),
-        bottom: signed(command.values[5], command.negative[5]),
+        edition: byte_of(command.values[1]),
+        zoom: byte_of(command.values[2]),
+        west: signed(command.values[3], command.negative[3]),
+        east: signed(command.values[4], command.negative[4]),
+        top: signed(command.values[5], command.negative[5]),
+        bottom: signed(command.values[6], command.negative[6]),
     }
 }
 

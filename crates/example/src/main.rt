@@ -11,6 +11,7 @@ use terminal::print_named;
 // A tile left of 180 degrees, and a sheet that crosses it.
 fn place() -> Address {
     Address {
+        edition: 2,
         zoom: 4,
         column: -1,
         row: 5,
@@ -19,6 +20,7 @@ fn place() -> Address {
 
 fn sheet() -> Rectangle {
     Rectangle {
+        edition: 2,
         zoom: 8,
         west: -2,
         east: 1,

@@ -7,14 +7,19 @@ fn print_calls() {
     );
     print(b"start COUNT RULE              start on the first COUNT tiles, by rule 1 or 2\n");
     print(b"open JOB                      open a job, 0 to 63\n");
-    print(b"ins JOB ZOOM COLUMN ROW       insert a tile; del deletes it, mem asks for it\n");
-    print(b"insall JOB ZOOM WEST EAST TOP BOTTOM\n");
+    print(b"ins JOB EDITION ZOOM COLUMN ROW\n");
+    print(b"                              insert a tile; del deletes it, mem asks for it;\n");
+    print(
+        b"                              edition 1 counts rows from the south, 2 from the north\n",
+    );
+    print(b"insall JOB EDITION ZOOM WEST EAST TOP BOTTOM\n");
     print(b"                              insert a rectangle of tiles; delall deletes it\n");
     print(b"commit JOB                    commit a job; abort aborts it\n");
 }
 
 fn print_looks() {
-    print(b"address ZOOM COLUMN ROW       the key of a tile\n");
+    print(b"address EDITION ZOOM COLUMN ROW\n");
+    print(b"                              the key of a tile, and how far round its column goes\n");
     print(b"read PLACE                    the record at a place of the journal\n");
     print(b"replay COUNT LENGTH           replay so many journal bytes onto COUNT tiles\n");
     print(b"mend COUNT LENGTH ROOM        mend so many journal bytes into ROOM bytes\n");

@@ -3,6 +3,7 @@ use sanbirogu::Address;
 use sanbirogu::Session;
 use script::Command;
 use script::Word;
+use script::byte_of;
 use script::first;
 use script::second;
 use script::signed;
@@ -12,9 +13,10 @@ mod help;
 
 fn lone_address(command: Command) -> Address {
     Address {
-        zoom: (command.values[0] % 256) as u8,
-        column: signed(command.values[1], command.negative[1]),
-        row: signed(command.values[2], command.negative[2]),
+        edition: byte_of(command.values[0]),
+        zoom: byte_of(command.values[1]),
+        column: signed(command.values[2], command.negative[2]),
+        row: signed(command.values[3], command.negative[3]),
     }
 }
 

@@ -5,6 +5,7 @@ use sanbirogu::Rule;
 use sanbirogu::Session;
 use script::Command;
 use script::Word;
+use script::byte_of;
 
 // The rule of a number, if there is one.
 pub enum Numbered {
@@ -104,7 +105,7 @@ pub fn change(
     match word {
         Word::Tile => put_tile(tiles, place, (value % 4294967296) as u32),
         Word::Entry => put_entry(operations, place, value),
-        Word::Byte => put_byte(journal, place, (value % 256) as u8),
+        Word::Byte => put_byte(journal, place, byte_of(value)),
         Word::Tiles => return with_counts(session, place, session.operations, session.journal),
         Word::Operations => return with_counts(session, session.tiles, place, session.journal),
         Word::Journal => return with_counts(session, session.tiles, session.operations, place),

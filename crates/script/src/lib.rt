@@ -5,6 +5,7 @@ pub use lines::Unfinished;
 pub use lines::find;
 pub use lines::keep;
 use numbers::Number;
+use words::MOST_NUMBERS;
 pub use words::Word;
 
 mod lines;
@@ -15,13 +16,13 @@ mod words;
 pub struct Command {
     pub word: Word,
     pub count: usize,
-    pub values: [u64; 6],
-    pub negative: [bool; 6],
+    pub values: [u64; MOST_NUMBERS],
+    pub negative: [bool; MOST_NUMBERS],
 }
 
 // Whether the number at a place is of the type that stands there; where there is no number, that there is no type.
-fn fits_at(command: Command, types: [u8; 6], i: usize) -> bool {
-    if 6 <= i {
+fn fits_at(command: Command, types: [u8; MOST_NUMBERS], i: usize) -> bool {
+    if MOST_NUMBERS <= i {
         return false;
     }
     if command.count <= i {
@@ -35,7 +36,7 @@ fn is_whole(command: Command) -> bool {
     let word = command.word;
     let types = words::types_of(word);
     let mut i: usize = 0;
-    while i < 6 {
+    while i < MOST_NUMBERS {
         if !fits_at(command, types, i) {
             return false;
         }
@@ -49,15 +50,15 @@ fn lone(word: Word) -> Command {
     Command {
         word,
         count: 0,
-        values: [0; 6],
-        negative: [false; 6],
+        values: [0; MOST_NUMBERS],
+        negative: [false; MOST_NUMBERS],
     }
 }
 
-// A command with one more number. None has seven.
+// A command with one more number, if one has so many.
 fn with_number(command: Command, value: u64, negative: bool) -> Command {
     let count = command.count;
-    if 6 <= count {
+    if MOST_NUMBERS <= count {
         return lone(Word::Unknown);
     }
     let mut longer = command;
@@ -98,8 +99,13 @@ pub fn parse(line: &[u8]) -> Command {
 
 // The numbers of a command, whose types parse has seen to.
 
+// The first number as a job, and a byte at any place.
 pub fn job_of(command: Command) -> u8 {
     (command.values[0] % 256) as u8
+}
+
+pub fn byte_of(value: u64) -> u8 {
+    (value % 256) as u8
 }
 
 pub fn first(command: Command) -> usize {

@@ -1,4 +1,8 @@
 // The words of the commands, and the types of their numbers.
+
+// The most numbers of a command.
+pub const MOST_NUMBERS: usize = 7;
+
 pub enum Word {
     Lend,
     Start,
@@ -136,34 +140,34 @@ fn change_word(line: &[u8], end: usize) -> Word {
 }
 
 // The types of a word's numbers: a count or a key up to 2^32 - 1, a byte, a signed number, an entry up to 2^64 - 1, or none.
-pub fn types_of(word: Word) -> [u8; 6] {
+pub fn types_of(word: Word) -> [u8; MOST_NUMBERS] {
     match word {
-        Word::Lend => [b'n', b'n', b'n', b'-', b'-', b'-'],
-        Word::Start => [b'n', b'b', b'-', b'-', b'-', b'-'],
-        Word::Open => [b'b', b'-', b'-', b'-', b'-', b'-'],
-        Word::Ins => [b'b', b'b', b's', b's', b'-', b'-'],
-        Word::Del => [b'b', b'b', b's', b's', b'-', b'-'],
-        Word::Mem => [b'b', b'b', b's', b's', b'-', b'-'],
-        Word::InsAll => [b'b', b'b', b's', b's', b's', b's'],
-        Word::DelAll => [b'b', b'b', b's', b's', b's', b's'],
-        Word::Commit => [b'b', b'-', b'-', b'-', b'-', b'-'],
-        Word::Abort => [b'b', b'-', b'-', b'-', b'-', b'-'],
-        Word::Address => [b'b', b's', b's', b'-', b'-', b'-'],
-        Word::Read => [b'n', b'-', b'-', b'-', b'-', b'-'],
-        Word::Replay => [b'n', b'n', b'-', b'-', b'-', b'-'],
-        Word::Mend => [b'n', b'n', b'n', b'-', b'-', b'-'],
-        Word::Sum => [b'-', b'-', b'-', b'-', b'-', b'-'],
-        Word::Show => [b'-', b'-', b'-', b'-', b'-', b'-'],
-        Word::Help => [b'-', b'-', b'-', b'-', b'-', b'-'],
-        Word::Tile => [b'n', b'n', b'-', b'-', b'-', b'-'],
-        Word::Entry => [b'n', b'e', b'-', b'-', b'-', b'-'],
-        Word::Byte => [b'n', b'b', b'-', b'-', b'-', b'-'],
-        Word::Tiles => [b'n', b'-', b'-', b'-', b'-', b'-'],
-        Word::Operations => [b'n', b'-', b'-', b'-', b'-', b'-'],
-        Word::Journal => [b'n', b'-', b'-', b'-', b'-', b'-'],
-        Word::Mark => [b'b', b'b', b'-', b'-', b'-', b'-'],
-        Word::Rule => [b'b', b'-', b'-', b'-', b'-', b'-'],
-        Word::Unknown => [b'-', b'-', b'-', b'-', b'-', b'-'],
+        Word::Lend => *b"nnn----",
+        Word::Start => *b"nb-----",
+        Word::Open => *b"b------",
+        Word::Ins => *b"bbbss--",
+        Word::Del => *b"bbbss--",
+        Word::Mem => *b"bbbss--",
+        Word::InsAll => *b"bbbssss",
+        Word::DelAll => *b"bbbssss",
+        Word::Commit => *b"b------",
+        Word::Abort => *b"b------",
+        Word::Address => *b"bbss---",
+        Word::Read => *b"n------",
+        Word::Replay => *b"nn-----",
+        Word::Mend => *b"nnn----",
+        Word::Sum => *b"-------",
+        Word::Show => *b"-------",
+        Word::Help => *b"-------",
+        Word::Tile => *b"nn-----",
+        Word::Entry => *b"ne-----",
+        Word::Byte => *b"nb-----",
+        Word::Tiles => *b"n------",
+        Word::Operations => *b"n------",
+        Word::Journal => *b"n------",
+        Word::Mark => *b"bb-----",
+        Word::Rule => *b"b------",
+        Word::Unknown => *b"-------",
     }
 }
 

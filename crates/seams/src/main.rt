@@ -23,18 +23,27 @@ fn print_count(session: Session) {
     print_line_end();
 }
 
-fn at(zoom: u8, column: i32, row: i32) -> Address {
-    Address { zoom, column, row }
+fn at(edition: u8, zoom: u8, column: i32, row: i32) -> Address {
+    Address {
+        edition,
+        zoom,
+        column,
+        row,
+    }
 }
 
-// Tiles A and B, a row too far south, a level too low and a level too high.
+// Tiles A and B, a row too far south, a level too low and a level too high; tile A with its row counted from the south, a row that is out of its range
+// there too, and no edition.
 fn address_of(tile: u8) -> Address {
     match tile {
-        b'A' => at(4, -1, 5),
-        b'B' => at(4, 16, 0),
-        b's' => at(4, 0, 16),
-        b'l' => at(3, 0, 0),
-        _ => at(15, 0, 0),
+        b'A' => at(2, 4, -1, 5),
+        b'B' => at(2, 4, 16, 0),
+        b's' => at(2, 4, 0, 16),
+        b'l' => at(2, 3, 0, 0),
+        b'h' => at(2, 15, 0, 0),
+        b'a' => at(1, 4, -1, 10),
+        b'n' => at(1, 4, 0, -1),
+        _ => at(3, 4, 0, 16),
     }
 }
 
@@ -240,14 +249,25 @@ fn own_tiles() {
     );
 }
 
-// Each reply from 1 to 9, and that the lowest is given.
+// Each reply from 1 to 9 and 14, and that the first of them is given.
 fn refusals() {
-    tell(b"Addresses out of range", &mut [0], 0, b"1(  1+s 1?l 1-h ");
+    tell(
+        b"Addresses out of range",
+        &mut [0],
+        0,
+        b"1(  1+s 1?l 1-h 1+n 1+x ",
+    );
+    tell(
+        b"One tile by both editions",
+        &mut [0],
+        0,
+        b"1(  2(  1+a 2+A ",
+    );
     tell(
         b"The job is looked at first",
         &mut [0],
         0,
-        b"z(  z+s z)  z!  1+s 1)  1!  1(  1(  ",
+        b"z(  z+x z)  z!  1+x 1)  1!  1(  1(  ",
     );
     tell(
         b"Operations table full",
@@ -269,11 +289,14 @@ fn refusals() {
 }
 
 fn addresses() {
-    show_address(b"4 -1 5", b'A');
-    show_address(b"4 16 0", b'B');
-    show_address(b"4 0 16", b's');
-    show_address(b"3 0 0", b'l');
-    show_address(b"15 0 0", b'h');
+    show_address(b"2 4 -1 5", b'A');
+    show_address(b"2 4 16 0", b'B');
+    show_address(b"2 4 0 16", b's');
+    show_address(b"2 3 0 0", b'l');
+    show_address(b"2 15 0 0", b'h');
+    show_address(b"1 4 -1 10", b'a');
+    show_address(b"1 4 0 -1", b'n');
+    show_address(b"3 4 0 16", b'x');
 }
 
 fn main() {
