@@ -100,20 +100,8 @@ fn count_command(counts: &mut Counts, console: &mut Console, command: Command, l
 
 /// Whether the call is refused by 1 exactly where the session's tables are not sound.
 fn is_on_session(command: Command) -> bool {
-    match command {
-        Command::Call(Call::Start(..)) => false,
-        Command::Call(Call::Open(_) | Call::Operate(..) | Call::Commit(_) | Call::Abort(_))
-        | Command::Sweep(..) => true,
-        Command::Lend(..)
-        | Command::Address(_)
-        | Command::Read(_)
-        | Command::Replay(..)
-        | Command::Mend(..)
-        | Command::Sum
-        | Command::Show
-        | Command::Help
-        | Command::Change(_) => false,
-    }
+    let starts = matches!(command, Command::Call(Call::Start(..)));
+    matches!(command, Command::Call(_) | Command::Sweep(..)) && !starts
 }
 
 pub fn name_of_occasion(name: &str) -> String {
@@ -152,7 +140,7 @@ pub fn table(counts: &Counts) -> String {
     for (name, times) in counts {
         text += &format!("{:>9} {}\n", times, name);
     }
-    for number in (0..=13).chain(Some(18)) {
+    for number in (0..=14).chain(Some(18)) {
         let ending = format!("reply {:>2}", number);
         let all = counts.iter().filter(|(name, _)| name.ends_with(&ending));
         let times: usize = all.map(|(_, times)| times).sum();

@@ -1,6 +1,7 @@
 //! The console: each line of text is a command, and each is answered by one line, or by several for
 //! a person to read.
 
+use crate::address::{address_step, Address};
 use crate::journal::{Reader, Reading};
 use crate::line::{parse, Call, Change, Command};
 use crate::mend::mend;
@@ -8,7 +9,7 @@ use crate::picture::{help, picture};
 use crate::rectangle::{Rectangle, Sweep};
 use crate::replay::replay;
 use crate::reply::{numbers, sweep_numbers, Reply, SweepReply};
-use crate::service::{self, Address};
+use crate::service;
 use crate::session::{length_of, Session, Tables};
 use crate::words::record_text;
 
@@ -203,7 +204,7 @@ fn sweep_line(reply: SweepReply) -> String {
 }
 
 fn address_line(address: Address) -> String {
-    match service::address_step(address) {
+    match address_step(address) {
         Ok(reached) => format!("reply 0 key {} turns {}", reached.tile.key(), reached.turns),
         Err(refusal) => format!("reply {} key 0 turns 0", refusal.number()),
     }

@@ -4,10 +4,12 @@
 
 #![forbid(unsafe_code)]
 
+pub mod address;
 pub mod admission;
 pub mod census;
 pub mod comparison;
 pub mod console;
+pub mod edition;
 pub mod encoding;
 pub mod journal;
 pub mod journals;

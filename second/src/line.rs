@@ -1,9 +1,9 @@
 //! One line of the console: a word and its numbers, to the byte.
 
+use crate::address::Address;
 use crate::operation::Procedure;
 use crate::rectangle::{Rectangle, Sweep};
 use crate::rule::Rule;
-use crate::service::Address;
 
 #[derive(Clone, Copy, Debug, PartialEq, Eq)]
 pub enum Command {
@@ -44,7 +44,7 @@ pub enum Change {
 }
 
 /// No command has more numbers than this, and no word or number of one more bytes.
-const MOST_NUMBERS: usize = 6;
+const MOST_NUMBERS: usize = 7;
 const LONGEST_WORD: usize = "operations".len();
 const LONGEST_NUMBER: usize = "18446744073709551615".len();
 
@@ -120,7 +120,8 @@ fn swept(job: &[u8], sweep: Sweep, place: &[&[u8]]) -> Option<Command> {
 
 fn rectangle(numbers: &[&[u8]]) -> Option<Rectangle> {
     match numbers {
-        [zoom, west, east, top, bottom] => Some(Rectangle {
+        [edition, zoom, west, east, top, bottom] => Some(Rectangle {
+            edition: small(edition)?,
             zoom: small(zoom)?,
             west: signed(west)?,
             east: signed(east)?,
@@ -133,7 +134,8 @@ fn rectangle(numbers: &[&[u8]]) -> Option<Rectangle> {
 
 fn address(numbers: &[&[u8]]) -> Option<Address> {
     match numbers {
-        [zoom, column, row] => Some(Address {
+        [edition, zoom, column, row] => Some(Address {
+            edition: small(edition)?,
             zoom: small(zoom)?,
             column: signed(column)?,
             row: signed(row)?,

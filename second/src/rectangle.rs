@@ -1,8 +1,9 @@
 //! Rectangles of tiles, as one call gives them.
 
+use crate::address::{address_step, Address};
 use crate::operation::Procedure;
 use crate::reply::{Refusal, Span};
-use crate::tile::{side_of, Reached, Tile};
+use crate::tile::{Reached, Tile};
 
 /// The most tiles of a rectangle.
 pub const MOST_LISTED: usize = 256;
@@ -26,9 +27,11 @@ impl Sweep {
 }
 
 /// From a west to an east column and from a top to a bottom row, all four included. The columns
-/// are taken round the world.
+/// are taken round the world; the rows are counted as the edition does, so that from the south the
+/// top row has the larger number.
 #[derive(Clone, Copy, Debug, PartialEq, Eq)]
 pub struct Rectangle {
+    pub edition: u8,
     pub zoom: u8,
     pub west: i32,
     pub east: i32,
@@ -50,20 +53,21 @@ impl Rectangle {
     }
 
     pub fn list(self) -> Result<List, Refusal> {
-        let side = side_of(u32::from(self.zoom)).ok_or(Refusal::OutsideRange)?;
-        // Both rows are tested here, before anything else is judged.
+        // The edition and both rows are tested here, before anything else is judged.
         let first = self.corner(self.west, self.top)?;
         let last = self.corner(self.east, self.bottom)?;
-        let (width, height) = (extent(self.west, self.east), extent(self.top, self.bottom));
+        let (top, bottom) = (first.tile.row(), last.tile.row());
+        let width = extent(i64::from(self.west), i64::from(self.east));
+        let height = extent(i64::from(top), i64::from(bottom));
         let listed = |count: u64| (1..=MOST_LISTED as u64).contains(&count);
         // The width is judged first, so that the product is small.
-        if width > u64::from(side) || !listed(width * height) {
+        if width > u64::from(first.tile.side()) || !listed(width * height) {
             return Err(Refusal::WrongRectangle);
         }
         let columns = self.west..=self.east;
         let tiles = columns.flat_map(|column| {
-            let rows = self.top..=self.bottom;
-            rows.filter_map(move |row| Tile::at(self.zoom, column, row))
+            let rows = top..=bottom;
+            rows.filter_map(move |row| Tile::at(self.zoom, column, i32::try_from(row).ok()?))
         });
         Ok(List {
             tiles: tiles.collect(),
@@ -75,13 +79,18 @@ impl Rectangle {
     }
 
     fn corner(self, column: i32, row: i32) -> Result<Reached, Refusal> {
-        Reached::at(self.zoom, column, row).ok_or(Refusal::OutsideRange)
+        let Rectangle { edition, zoom, .. } = self;
+        address_step(Address {
+            edition,
+            zoom,
+            column,
+            row,
+        })
     }
 }
 
 /// How many numbers there are from the first to the last. Between signed 32-bit numbers that may
 /// be more than 32 bits can say.
-fn extent(first: i32, last: i32) -> u64 {
-    let difference = i64::from(last) - i64::from(first);
-    u64::try_from(difference + 1).unwrap_or(0)
+fn extent(first: i64, last: i64) -> u64 {
+    u64::try_from(last - first + 1).unwrap_or(0)
 }

@@ -1,4 +1,6 @@
-//! Tile addresses and the keys that stand for them.
+//! Tiles, the keys that stand for them, and the way to them from a column and a row.
+
+use crate::edition::Edition;
 
 const LOWEST_ZOOM: u32 = 4;
 const HIGHEST_ZOOM: u32 = 14;
@@ -32,11 +34,11 @@ pub struct Reached {
 }
 
 impl Reached {
-    /// The address step. Every column is accepted and taken round the world.
-    pub fn at(zoom: u8, column: i32, row: i32) -> Option<Reached> {
+    /// Every column is accepted and taken round the world; the row is counted as the edition does.
+    pub fn at(edition: Edition, zoom: u8, column: i32, row: i32) -> Option<Reached> {
         let zoom = u32::from(zoom);
         let side = side_of(zoom)?;
-        let row = u32::try_from(row).ok().filter(|row| *row < side)?;
+        let row = edition.north_row(row, side)?;
         let (turns, column) = round_the_world(column, side)?;
         let tile = Tile { zoom, column, row };
         Some(Reached { tile, turns })
@@ -53,9 +55,9 @@ fn round_the_world(column: i32, side: u32) -> Option<(i32, u32)> {
 }
 
 impl Tile {
-    /// The tile of an address, however often its column goes round.
+    /// The tile in a row counted from the north, however often its column goes round.
     pub fn at(zoom: u8, column: i32, row: i32) -> Option<Tile> {
-        Reached::at(zoom, column, row).map(|reached| reached.tile)
+        Reached::at(Edition::FromNorth, zoom, column, row).map(|reached| reached.tile)
     }
 
     /// The tile a key stands for; none for a number that is no key.
@@ -79,10 +81,16 @@ impl Tile {
         self.zoom
     }
 
+    /// The number of columns, and of rows, of its level.
+    pub fn side(self) -> u32 {
+        1 << self.zoom
+    }
+
     pub fn column(self) -> u32 {
         self.column
     }
 
+    /// Counted from the north.
     pub fn row(self) -> u32 {
         self.row
     }

@@ -1,12 +1,17 @@
 //! Addresses and keys, by the numbers of the scope paper.
 
+use second::address::{address_step, Address};
 use second::random::Random;
-use second::service::{address_step, Address};
 use second::soundness::is_key;
 use second::tile::Tile;
 
 fn key(zoom: u8, column: i32, row: i32) -> Result<u32, u8> {
-    match address_step(Address { zoom, column, row }) {
+    match address_step(Address {
+        edition: 2,
+        zoom,
+        column,
+        row,
+    }) {
         Ok(reached) => Ok(reached.tile.key()),
         Err(refusal) => Err(refusal.number()),
     }

@@ -3,9 +3,9 @@
 mod common;
 
 use common::*;
+use second::address::Address;
 use second::operation::Procedure;
 use second::rule::{Rule, RULES};
-use second::service::Address;
 use second::session::Session;
 use second::soundness::{broken, requirements_of, Requirement};
 use std::collections::BTreeSet;

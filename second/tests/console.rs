@@ -10,22 +10,22 @@ fn a_session_by_hand() {
         "lend 2 3 60 => lent 2 3 60
         start 0 1 => reply 0 answer 0 holder 0 turns 0
         open 1 => reply 0 answer 0 holder 0 turns 0
-        ins 1 4 -1 5 => reply 0 answer 1 holder 0 turns -1
-        mem 1 4 15 5 => reply 6 answer 0 holder 1 turns 0
+        ins 1 2 4 -1 5 => reply 0 answer 1 holder 0 turns -1
+        mem 1 2 4 15 5 => reply 6 answer 0 holder 1 turns 0
         read 4 => operation 1 1 1 1073987589 next 14
         read 0 => open 1 next 4
         commit 1 => reply 0 answer 0 holder 0 turns 0
         read 14 => commit 1 next 18
         read 18 => end
-        mem 1 4 0 0 => reply 3 answer 0 holder 0 turns 0
+        mem 1 2 4 0 0 => reply 3 answer 0 holder 0 turns 0
         open 2 => reply 0 answer 0 holder 0 turns 0
-        mem 2 4 15 5 => reply 0 answer 1 holder 0 turns 0
-        mem 2 4 0 0 => reply 0 answer 0 holder 0 turns 0
+        mem 2 2 4 15 5 => reply 0 answer 1 holder 0 turns 0
+        mem 2 2 4 0 0 => reply 0 answer 0 holder 0 turns 0
         abort 2 => reply 0 answer 0 holder 0 turns 0
         read 42 => abort 2 next 46
         read 46 => end
-        address 4 -1 5 => reply 0 key 1073987589 turns -1
-        address 3 0 0 => reply 5 key 0 turns 0",
+        address 2 4 -1 5 => reply 0 key 1073987589 turns -1
+        address 2 3 0 0 => reply 5 key 0 turns 0",
     );
 }
 
@@ -35,8 +35,8 @@ fn nothing_is_lent_at_the_beginning() {
         "start 0 1 => reply 1 answer 0 holder 0 turns 0
         start 0 2 => reply 1 answer 0 holder 0 turns 0
         open 0 => reply 1 answer 0 holder 0 turns 0
-        ins 0 4 -1 5 => reply 1 answer 0 holder 0 turns 0
-        delall 0 4 -1 5 0 0 => reply 1 holder 0 turns 0 0
+        ins 0 2 4 -1 5 => reply 1 answer 0 holder 0 turns 0
+        delall 0 2 4 -1 5 0 0 => reply 1 holder 0 turns 0 0
         sum => sum 1
         read 0 => end
         replay 0 0 => reply 1 offset 0 undone 0 count 0
@@ -54,19 +54,19 @@ fn a_session_by_rule_2_by_hand() {
         start 0 2 => reply 0 answer 0 holder 0 turns 0
         read 0 => rule 2 next 4
         open 1 => reply 0 answer 0 holder 0 turns 0
-        ins 1 4 -1 5 => reply 0 answer 1 holder 0 turns -1
-        mem 1 4 15 5 => reply 0 answer 1 holder 0 turns 0
-        del 1 4 15 5 => reply 0 answer 1 holder 0 turns 0
-        mem 1 4 31 5 => reply 0 answer 0 holder 0 turns 1
+        ins 1 2 4 -1 5 => reply 0 answer 1 holder 0 turns -1
+        mem 1 2 4 15 5 => reply 0 answer 1 holder 0 turns 0
+        del 1 2 4 15 5 => reply 0 answer 1 holder 0 turns 0
+        mem 1 2 4 31 5 => reply 0 answer 0 holder 0 turns 1
         open 2 => reply 0 answer 0 holder 0 turns 0
-        mem 2 4 31 5 => reply 6 answer 0 holder 1 turns 0
+        mem 2 2 4 31 5 => reply 6 answer 0 holder 1 turns 0
         read 4 => open 1 next 8
         read 48 => open 2 next 52
         rule 1 => ok
         open 3 => reply 1 answer 0 holder 0 turns 0
         rule 2 => ok
         abort 1 => reply 0 answer 0 holder 0 turns 0
-        mem 2 4 15 5 => reply 0 answer 0 holder 0 turns 0",
+        mem 2 2 4 15 5 => reply 0 answer 0 holder 0 turns 0",
     );
 }
 
@@ -77,55 +77,88 @@ fn rectangles_by_hand() {
         start 0 1 => reply 0 answer 0 holder 0 turns 0
         open 1 => reply 0 answer 0 holder 0 turns 0
         open 2 => reply 0 answer 0 holder 0 turns 0
-        insall 1 4 -1 0 5 6 => reply 0 holder 0 turns -1 0
+        insall 1 2 4 -1 0 5 6 => reply 0 holder 0 turns -1 0
         read 8 => operation 1 1 1 1073987589 next 18
         read 38 => operation 1 1 1 1073741830 next 48
-        delall 2 4 16 16 0 15 => reply 6 holder 1 turns 0 0
-        delall 2 4 0 0 6 7 => reply 6 holder 1 turns 0 0
-        insall 2 4 17 17 0 0 => reply 7 holder 0 turns 0 0
-        delall 2 4 17 19 0 0 => reply 8 holder 0 turns 0 0
-        delall 2 4 17 16 0 0 => reply 13 holder 0 turns 0 0
-        insall 2 4 16 16 0 16 => reply 5 holder 0 turns 0 0
-        insall 2 4 -2147483648 2147483647 0 0 => reply 13 holder 0 turns 0 0
-        insall 64 4 16 16 0 0 => reply 2 holder 0 turns 0 0
-        insall 3 4 16 16 0 0 => reply 3 holder 0 turns 0 0
-        delall 2 4 17 18 0 0 => reply 0 holder 0 turns 1 1
-        delall 2 4 1 1 0 0 => reply 8 holder 0 turns 0 0
+        delall 2 2 4 16 16 0 15 => reply 6 holder 1 turns 0 0
+        delall 2 2 4 0 0 6 7 => reply 6 holder 1 turns 0 0
+        insall 2 2 4 17 17 0 0 => reply 7 holder 0 turns 0 0
+        delall 2 2 4 17 19 0 0 => reply 8 holder 0 turns 0 0
+        delall 2 2 4 17 16 0 0 => reply 13 holder 0 turns 0 0
+        insall 2 2 4 16 16 0 16 => reply 5 holder 0 turns 0 0
+        insall 2 2 4 -2147483648 2147483647 0 0 => reply 13 holder 0 turns 0 0
+        insall 64 2 4 16 16 0 0 => reply 2 holder 0 turns 0 0
+        insall 3 2 4 16 16 0 0 => reply 3 holder 0 turns 0 0
+        delall 2 2 4 17 18 0 0 => reply 0 holder 0 turns 1 1
+        delall 2 2 4 1 1 0 0 => reply 8 holder 0 turns 0 0
         mark 5 1 => ok
         mark 6 1 => ok
         mark 7 1 => ok
         mark 8 1 => ok
         mark 9 1 => ok
-        delall 2 4 17 17 0 0 => reply 1 holder 0 turns 0 0",
+        delall 2 2 4 17 17 0 0 => reply 1 holder 0 turns 0 0",
     );
 }
 
 #[test]
 fn turns_by_hand() {
     holds(
-        "address 4 -1 5 => reply 0 key 1073987589 turns -1
-        address 4 15 5 => reply 0 key 1073987589 turns 0
-        address 4 16 0 => reply 0 key 1073741824 turns 1
-        address 4 70000 0 => reply 0 key 1073741824 turns 4375
-        address 4 -2147483648 0 => reply 0 key 1073741824 turns -134217728
-        address 4 2147483647 0 => reply 0 key 1073987584 turns 134217727
-        address 14 -1 16383 => reply 0 key 4026531839 turns -1
-        address 14 16383 16383 => reply 0 key 4026531839 turns 0
-        address 14 -2147483648 0 => reply 0 key 3758096384 turns -131072
-        address 14 2147483647 16383 => reply 0 key 4026531839 turns 131071
-        address 4 70000 16 => reply 5 key 0 turns 0
-        address 15 70000 0 => reply 5 key 0 turns 0
+        "address 2 4 -1 5 => reply 0 key 1073987589 turns -1
+        address 2 4 15 5 => reply 0 key 1073987589 turns 0
+        address 2 4 16 0 => reply 0 key 1073741824 turns 1
+        address 2 4 70000 0 => reply 0 key 1073741824 turns 4375
+        address 2 4 -2147483648 0 => reply 0 key 1073741824 turns -134217728
+        address 2 4 2147483647 0 => reply 0 key 1073987584 turns 134217727
+        address 2 14 -1 16383 => reply 0 key 4026531839 turns -1
+        address 2 14 16383 16383 => reply 0 key 4026531839 turns 0
+        address 2 14 -2147483648 0 => reply 0 key 3758096384 turns -131072
+        address 2 14 2147483647 16383 => reply 0 key 4026531839 turns 131071
+        address 2 4 70000 16 => reply 5 key 0 turns 0
+        address 2 15 70000 0 => reply 5 key 0 turns 0
         lend 40 40 500 => lent 40 40 500
         start 0 1 => reply 0 answer 0 holder 0 turns 0
         open 1 => reply 0 answer 0 holder 0 turns 0
-        ins 1 4 70000 0 => reply 0 answer 1 holder 0 turns 4375
-        mem 1 4 -2147483648 1 => reply 0 answer 0 holder 0 turns -134217728
-        del 1 14 2147483647 1 => reply 0 answer 1 holder 0 turns 131071
-        mem 1 4 70000 -1 => reply 5 answer 0 holder 0 turns 0
-        mem 1 4 70000 0 => reply 6 answer 0 holder 1 turns 0
-        delall 1 4 69999 70000 2 2 => reply 0 holder 0 turns 4374 4375
-        delall 1 4 -2147483647 -2147483632 3 3 => reply 0 holder 0 turns -134217728 -134217727
-        delall 1 14 2147467263 2147467264 4 4 => reply 0 holder 0 turns 131070 131071",
+        ins 1 2 4 70000 0 => reply 0 answer 1 holder 0 turns 4375
+        mem 1 2 4 -2147483648 1 => reply 0 answer 0 holder 0 turns -134217728
+        del 1 2 14 2147483647 1 => reply 0 answer 1 holder 0 turns 131071
+        mem 1 2 4 70000 -1 => reply 5 answer 0 holder 0 turns 0
+        mem 1 2 4 70000 0 => reply 6 answer 0 holder 1 turns 0
+        delall 1 2 4 69999 70000 2 2 => reply 0 holder 0 turns 4374 4375
+        delall 1 2 4 -2147483647 -2147483632 3 3 => reply 0 holder 0 turns -134217728 -134217727
+        delall 1 2 14 2147467263 2147467264 4 4 => reply 0 holder 0 turns 131070 131071",
+    );
+}
+
+#[test]
+fn editions_by_hand() {
+    holds(
+        "address 1 4 -1 10 => reply 0 key 1073987589 turns -1
+        address 1 4 16 15 => reply 0 key 1073741824 turns 1
+        address 1 14 -1 0 => reply 0 key 4026531839 turns -1
+        address 1 4 0 -2147483648 => reply 5 key 0 turns 0
+        address 1 4 0 16 => reply 5 key 0 turns 0
+        address 0 4 0 0 => reply 14 key 0 turns 0
+        address 3 4 0 16 => reply 14 key 0 turns 0
+        address 255 3 70000 0 => reply 14 key 0 turns 0
+        lend 9 9 200 => lent 9 9 200
+        start 0 1 => reply 0 answer 0 holder 0 turns 0
+        ins 1 3 4 0 16 => reply 3 answer 0 holder 0 turns 0
+        open 1 => reply 0 answer 0 holder 0 turns 0
+        open 2 => reply 0 answer 0 holder 0 turns 0
+        ins 1 1 4 -1 10 => reply 0 answer 1 holder 0 turns -1
+        read 8 => operation 1 1 1 1073987589 next 18
+        mem 2 2 4 15 5 => reply 6 answer 0 holder 1 turns 0
+        mem 2 1 4 15 5 => reply 0 answer 0 holder 0 turns 0
+        mem 2 0 4 15 16 => reply 14 answer 0 holder 0 turns 0
+        insall 2 1 4 0 0 1 0 => reply 0 holder 0 turns 0 0
+        read 28 => operation 2 1 1 1073741838 next 38
+        read 38 => operation 2 1 1 1073741839 next 48
+        insall 2 1 4 0 0 0 1 => reply 13 holder 0 turns 0 0
+        insall 2 2 4 0 0 15 14 => reply 13 holder 0 turns 0 0
+        insall 2 1 4 0 0 16 15 => reply 5 holder 0 turns 0 0
+        insall 2 1 4 0 0 0 -1 => reply 5 holder 0 turns 0 0
+        insall 2 3 4 1 0 0 -1 => reply 14 holder 0 turns 0 0
+        delall 1 2 4 0 0 14 15 => reply 6 holder 2 turns 0 0",
     );
 }
 
@@ -155,7 +188,7 @@ fn replay_leaves_the_session_alone() {
         "lend 2 3 60 => lent 2 3 60
         start 0 1 => reply 0 answer 0 holder 0 turns 0
         open 1 => reply 0 answer 0 holder 0 turns 0
-        ins 1 4 -1 5 => reply 0 answer 1 holder 0 turns -1
+        ins 1 2 4 -1 5 => reply 0 answer 1 holder 0 turns -1
         replay 0 14 => reply 1 offset 0 undone 0 count 0
         tile 0 0 => ok
         replay 0 14 => reply 0 offset 14 undone 1 count 0

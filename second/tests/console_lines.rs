@@ -9,22 +9,25 @@ use second::picture::COMMANDS;
 
 /// Lines that are no command where 2 tile places, 3 operation places and 60 bytes are lent.
 #[rustfmt::skip]
-const BAD_LINES: [&[u8]; 95] = [
+const BAD_LINES: [&[u8]; 103] = [
     b"", b" ", b"sum ", b" sum", b"sum 0", b"SUM", b"sum\r", b"sum\t", b"open", b"open  1",
     b"open 1 ", b"open 01", b"open +1", b"open -1", b"open 256", b"open 1 2", b"open\t1",
     b"open 1\r", b"open \xff", b"\xffopen 1", b"open 0x1", b"start 4294967296 1", b"start -1 1",
-    b"address 256 0 0", b"address 4 2147483648 0", b"address 4 -2147483649 0",
-    b"address 4 0 2147483648", b"address 4 -0 0", b"address 4 0 -0", b"address 4 00 0",
-    b"address 4 --1 0", b"address 4 - 0", b"address 4 0", b"address 4 0 0 0",
+    b"address 2 256 0 0", b"address 2 4 2147483648 0", b"address 2 4 -2147483649 0",
+    b"address 2 4 0 2147483648", b"address 2 4 -0 0", b"address 2 4 0 -0", b"address 2 4 00 0",
+    b"address 2 4 --1 0", b"address 2 4 - 0", b"address 4 0 0", b"address 2 4 0 0 0",
+    b"address 256 4 0 0", b"address -1 4 0 0", b"address 02 4 0 0", b"address  4 0 0",
     b"entry 0 18446744073709551616", b"entry 3 0", b"tile 2 0", b"tile 0 4294967296",
     b"byte 60 0", b"byte 0 256", b"mark 64 0", b"mark 0 2", b"mark 0 256", b"mark 0",
     b"lend 5001 1 1", b"lend 1 1201 1", b"lend 1 1 66001", b"lend 1 1", b"lend 1 1 1 1",
     b"read 4294967296", b"read", b"replay 0 61", b"replay 0", b"replay 0 0 0", b"tiles -1",
     b"operations 4294967296", b"journal 00", b"commit", b"abort 1 1",
-    b"ins 1 4 0", b"ins 1 4 0 0 0", b"ins 256 4 0 0", b"ins", b"ins     ",
+    b"ins 1 4 0 0", b"ins 1 2 4 0 0 0", b"ins 256 2 4 0 0", b"ins", b"ins     ",
+    b"ins 1 256 4 0 0", b"mem 1 -2 4 0 0",
     b"start", b"start 0", b"start 0 0", b"start 0 3", b"start 0 01", b"start 0 1 1", b"start 0 256",
-    b"insall", b"insall 1 4 0 0 0", b"insall 1 4 0 0 0 0 0", b"insall 1 4 0 0 0 -0",
-    b"delall 1 256 0 0 0 0", b"delall 1 4 0 2147483648 0 0", b"memall 1 4 0 0 0 0",
+    b"insall", b"insall 1 4 0 0 0 0", b"insall 1 2 4 0 0 0 0 0", b"insall 1 2 4 0 0 0 -0",
+    b"insall 1 256 4 0 0 0 0", b"delall 1 1e 4 0 0 0 0", b"delall 1 2 256 0 0 0 0",
+    b"delall 1 2 4 0 2147483648 0 0", b"memall 1 2 4 0 0 0 0",
     b"mend 0 0", b"mend 0 0 0 0", b"mend 0 61 0", b"mend 0 0 66001", b"mend 0 0 4294967296",
     b"rule", b"rule 0", b"rule 3", b"rule 1 1",
     b"help ", b" help", b"help 1", b"Help", b"helps", b"show ", b"show 1", b"show\r",
@@ -48,19 +51,23 @@ fn numbers_at_the_end_of_their_types_are_numbers() {
     let good = [
         ("open 255", "reply 1 answer 0 holder 0 turns 0"),
         (
-            "address 255 -2147483648 2147483647",
+            "address 2 255 -2147483648 2147483647",
             "reply 5 key 0 turns 0",
         ),
         (
-            "address 4 -2147483648 0",
+            "address 255 255 -2147483648 2147483647",
+            "reply 14 key 0 turns 0",
+        ),
+        (
+            "address 2 4 -2147483648 0",
             "reply 0 key 1073741824 turns -134217728",
         ),
         (
-            "address 4 2147483647 0",
+            "address 2 4 2147483647 0",
             "reply 0 key 1073987584 turns 134217727",
         ),
         (
-            "insall 255 255 -2147483648 2147483647 -2147483648 2147483647",
+            "insall 255 255 255 -2147483648 2147483647 -2147483648 2147483647",
             "reply 1 holder 0 turns 0 0",
         ),
         ("read 4294967295", "end"),
@@ -124,7 +131,7 @@ fn show_shows_the_tables_and_changes_nothing() {
         "lend 3 3 60",
         "start 0 2",
         "open 1",
-        "ins 1 4 -1 5",
+        "ins 1 2 4 -1 5",
         "open 2",
         "tile 1 7",
         "tiles 2",

@@ -34,7 +34,7 @@ fn refused_line(number: u8, count: u32, room: usize) -> String {
 #[test]
 fn mends_by_hand() {
     // The journal has an open, an insert and half of a commit.
-    let input = "lend 2 3 60\nstart 0 1\nopen 1\nins 1 4 -1 5\nbyte 14 3\nbyte 15 0\ntile 0 0\n\
+    let input = "lend 2 3 60\nstart 0 1\nopen 1\nins 1 2 4 -1 5\nbyte 14 3\nbyte 15 0\ntile 0 0\n\
                  mend 0 16 20\nmend 0 16 18\nmend 0 16 17\nmend 1 16 20\nmend 0 61 20\n\
                  mend 0 16 66001\nmend 0 0 0\nmend 0 16 66000\n";
     let due = [
@@ -61,7 +61,7 @@ fn a_mend_leaves_the_session_alone() {
         "lend 2 3 60 => lent 2 3 60
         start 0 2 => reply 0 answer 0 holder 0 turns 0
         open 1 => reply 0 answer 0 holder 0 turns 0
-        ins 1 4 -1 5 => reply 0 answer 1 holder 0 turns -1
+        ins 1 2 4 -1 5 => reply 0 answer 1 holder 0 turns -1
         tile 0 0 => ok
         mend 0 18 60 => reply 0 length 22 left 0 aborted 1 count 0 sum {}
         commit 1 => reply 1 answer 0 holder 0 turns 0

@@ -3,6 +3,7 @@
 use second::census::{count_journal, count_script, table, Counts};
 use second::census::{name_of, name_of_broken, name_of_occasion};
 use second::journals::{journal, KINDS};
+use second::line::{parse, Call, Command};
 use second::occasions::all_names as occasion_names;
 use second::rule::RULES;
 use second::scripts::{script, MEBIBYTE};
@@ -32,15 +33,15 @@ const REPLIES: [(&str, &[u8]); 20] = [
     ("start 2", &[0, 1, 9]),
     ("open 1", &[0, 1, 2, 4, 9]),
     ("open 2", &[0, 1, 2, 4, 9]),
-    ("operation 1", &[0, 1, 2, 3, 5, 6, 7, 8, 9]),
-    ("operation 2", &[0, 1, 2, 3, 5, 6, 7, 8, 9]),
-    ("rectangle 1", &[0, 1, 2, 3, 5, 6, 7, 8, 9, 13]),
-    ("rectangle 2", &[0, 1, 2, 3, 5, 6, 7, 8, 9, 13]),
+    ("operation 1", &[0, 1, 2, 3, 5, 6, 7, 8, 9, 14]),
+    ("operation 2", &[0, 1, 2, 3, 5, 6, 7, 8, 9, 14]),
+    ("rectangle 1", &[0, 1, 2, 3, 5, 6, 7, 8, 9, 13, 14]),
+    ("rectangle 2", &[0, 1, 2, 3, 5, 6, 7, 8, 9, 13, 14]),
     ("commit 1", &[0, 1, 2, 3]),
     ("commit 2", &[0, 1, 2, 3]),
     ("abort 1", &[0, 1, 2, 3]),
     ("abort 2", &[0, 1, 2, 3]),
-    ("address", &[0, 5]),
+    ("address", &[0, 5, 14]),
     ("read", &[10]),
     ("replay 1", &[0, 1, 10, 11, 12]),
     ("replay 2", &[0, 1, 10, 11, 12]),
@@ -111,6 +112,34 @@ fn every_line_is_answered_by_one_line() {
         let text = script(seed, 300);
         let feeds = |bytes: &[u8]| bytes.iter().filter(|byte| **byte == b'\n').count();
         assert_eq!(feeds(&text), feeds(&answers(&text)));
+    }
+}
+
+/// How often an operation names a tile that another one, with the same tables lent, named in the
+/// other edition.
+fn meetings_of_editions(text: &[u8]) -> usize {
+    let mut named = BTreeSet::new();
+    let mut meetings = 0;
+    for command in text.split(|byte| *byte == b'\n').filter_map(parse) {
+        match command {
+            Command::Lend(..) => named.clear(),
+            Command::Call(Call::Operate(_, _, address)) => {
+                let (edition, tile) = (address.edition, address.tile());
+                named.extend(tile.map(|tile| (edition, tile)));
+                let other = tile.map(|tile| (3 - edition, tile));
+                meetings += usize::from(other.map_or(false, |other| named.contains(&other)));
+            }
+            _ => {}
+        }
+    }
+    meetings
+}
+
+#[test]
+fn both_editions_name_the_same_tiles_in_every_script() {
+    for seed in 120..130 {
+        let meetings = meetings_of_editions(&script(seed, LINES));
+        assert!(meetings > 20, "seed {}: {}", seed, meetings);
     }
 }
 

@@ -3,9 +3,9 @@
 mod common;
 
 use common::*;
+use second::address::Address;
 use second::operation::Procedure;
 use second::rule::Rule;
-use second::service::Address;
 use second::strictness::{most_tiles, run, step_on, strict, Step, Tiles};
 
 fn with_places(places: usize, present: &[Address]) -> Bench {

@@ -42,7 +42,7 @@ fn an_empty_input_is_an_input() {
 
 #[test]
 fn an_output_that_nobody_reads_is_no_reason_to_complain() {
-    let lines = "yes address 4 0 0 | head -n 60000";
+    let lines = "yes address 2 4 0 0 | head -n 60000";
     let output = shell(&format!("{} | '{}' | head -n 1", lines, CONSOLE));
     assert_eq!(output.stdout, b"reply 0 key 1073741824 turns 0\n");
     assert_eq!(output.stderr, b"");
@@ -134,7 +134,7 @@ fn lines_are_answered_as_one_types() {
         ("start 0 1", "reply 0 answer 0 holder 0 turns 0"),
         ("open 1", "reply 0 answer 0 holder 0 turns 0"),
         ("", "?"),
-        ("ins 1 4 -1 5", "reply 0 answer 1 holder 0 turns -1"),
+        ("ins 1 2 4 -1 5", "reply 0 answer 1 holder 0 turns -1"),
         ("read 4", "operation 1 1 1 1073987589 next 14"),
         ("abort 1", "reply 0 answer 0 holder 0 turns 0"),
     ] {
@@ -177,7 +177,7 @@ fn a_line_is_answered_where_a_buffer_ends() {
 
 #[test]
 fn a_long_script_is_answered_to_its_end() {
-    let lines = "yes address 4 0 0 | head -n 200000";
+    let lines = "yes address 2 4 0 0 | head -n 200000";
     let output = shell(&format!("{} | '{}' | sort | uniq -c", lines, CONSOLE));
     let text = String::from_utf8_lossy(&output.stdout).into_owned();
     assert_eq!(text.trim(), "200000 reply 0 key 1073741824 turns 0");

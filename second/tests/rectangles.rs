@@ -3,17 +3,18 @@
 mod common;
 
 use common::*;
+use second::address::Address;
 use second::journal::{Reader, Reading, Record};
 use second::random::Random;
 use second::rectangle::{Rectangle, Sweep, SWEEPS};
 use second::reply::Refusal;
 use second::rule::{Rule, RULES};
-use second::service::Address;
 use second::tile::Tile;
-use std::collections::BTreeSet;
+use std::collections::{BTreeMap, BTreeSet};
 
 fn rectangle(zoom: u8, columns: (i32, i32), rows: (i32, i32)) -> Rectangle {
     Rectangle {
+        edition: 2,
         zoom,
         west: columns.0,
         east: columns.1,
@@ -22,9 +23,23 @@ fn rectangle(zoom: u8, columns: (i32, i32), rows: (i32, i32)) -> Rectangle {
     }
 }
 
-/// 5 or 13 by the words of the papers, with numbers that hold everything; none where neither is
-/// due.
+/// The same rectangle with its rows counted from the south.
+fn from_south(place: Rectangle) -> Rectangle {
+    let last = (1 << place.zoom) - 1;
+    Rectangle {
+        edition: 1,
+        top: last - place.top,
+        bottom: last - place.bottom,
+        ..place
+    }
+}
+
+/// 14, 5 or 13 by the words of the papers, with numbers that hold everything; none where none of
+/// them is due.
 fn due_refusal(place: Rectangle) -> Option<Refusal> {
+    if place.edition != 1 && place.edition != 2 {
+        return Some(Refusal::UnknownEdition);
+    }
     let side = match place.zoom {
         4..=14 => 1i128 << place.zoom,
         _ => return Some(Refusal::OutsideRange),
@@ -34,9 +49,14 @@ fn due_refusal(place: Rectangle) -> Option<Refusal> {
     if !(0..side).contains(&top) || !(0..side).contains(&bottom) {
         return Some(Refusal::OutsideRange);
     }
-    let empty = east < west || bottom < top;
+    // The rows are turned before the rectangle is judged empty.
+    let (north, south) = match place.edition {
+        1 => (side - 1 - top, side - 1 - bottom),
+        _ => (top, bottom),
+    };
+    let empty = east < west || south < north;
     let too_wide = east - west + 1 > side;
-    let too_many = (east - west + 1) * (bottom - top + 1) > 256;
+    let too_many = (east - west + 1) * (south - north + 1) > 256;
     Some(Refusal::WrongRectangle).filter(|_| empty || too_wide || too_many)
 }
 
@@ -54,27 +74,39 @@ fn some_rectangle(random: &mut Random) -> Rectangle {
     let zoom = random.pick(&[3, 4, 4, 4, 5, 5, 8, 9, 14, 15, 255]);
     let side = 1 << u32::from(zoom).min(14);
     let columns = some_edges(random, side);
-    let rows = match random.below(3) {
+    let (one, other) = match random.below(3) {
         0 => some_edges(random, side),
         _ => (0, random.pick(&[0, 1, 7, 8, 15, 16]).min(side - 1)),
     };
-    rectangle(zoom, columns, rows)
+    let edition = random.pick(&[1, 1, 1, 2, 2, 2, 0, 3, 255]);
+    // Mostly the top row is the larger one from the south, and the smaller one from the north.
+    let rows = if (edition == 1) == random.one_in(4) {
+        (one, other)
+    } else {
+        (other, one)
+    };
+    Rectangle {
+        edition,
+        ..rectangle(zoom, columns, rows)
+    }
 }
 
 #[test]
 fn what_is_taken_is_exactly_what_the_papers_say() {
     let mut random = Random::seeded(21);
-    let (mut taken, mut refused) = (0, [0, 0]);
+    let mut met: BTreeMap<(u8, u8), usize> = BTreeMap::new();
     for _ in 0..60_000 {
         let place = some_rectangle(&mut random);
         let refusal = place.tiles().err();
         assert_eq!(refusal, due_refusal(place), "{:?}", place);
-        match refusal {
-            None => taken += 1,
-            Some(refusal) => refused[usize::from(refusal == Refusal::WrongRectangle)] += 1,
-        }
+        let number = refusal.map_or(0, |refusal| refusal.number());
+        *met.entry((place.edition, number)).or_insert(0) += 1;
     }
-    assert!(taken > 3000 && refused[0] > 3000 && refused[1] > 3000);
+    let known = [1, 2].into_iter();
+    let often = known.flat_map(|edition| [0, 5, 13].map(|number| (edition, number)));
+    for case in often.chain([(0, 14), (3, 14), (255, 14)]) {
+        assert!(met.get(&case).copied().unwrap_or(0) > 1000, "{:?}", met);
+    }
 }
 
 #[test]
@@ -88,6 +120,7 @@ fn the_list_has_every_tile_once_west_to_east_and_top_to_bottom() {
         let (top, height) = (random.between(0, 8) as i32, random.between(1, 8) as i32);
         let place = rectangle(zoom, (west, west + width - 1), (top, top + height - 1));
         let list = place.tiles().expect("a rectangle that is taken");
+        assert_eq!(from_south(place).tiles().as_ref(), Ok(&list));
         // Tile i is in column west + i / height and row top + i % height.
         let due = (0..width * height)
             .map(|i| Tile::at(zoom, west + i / height, top + i % height).expect("a tile"));
@@ -155,16 +188,18 @@ fn one_record_a_tile_in_the_order_of_the_list() {
 #[test]
 fn the_refusals_in_their_order() {
     let none = rectangle(4, (1, 0), (16, 15));
+    let unknown = Rectangle { edition: 0, ..none };
     let empty = rectangle(4, (1, 0), (5, 5));
     let good = rectangle(4, (-1, 0), (5, 5));
     for rule in RULES {
         let mut bench = Bench::started_by(rule, (1, 1, 12), &[A]);
         bench.tables.tiles[0] += 16;
-        assert_eq!(bench.sweep(64, Sweep::Insert, none), (1, 0));
+        assert_eq!(bench.sweep(64, Sweep::Insert, unknown), (1, 0));
         bench.tables.tiles[0] -= 16;
-        assert_eq!(bench.sweep(64, Sweep::Insert, none), (2, 0));
-        assert_eq!(bench.sweep(63, Sweep::Insert, none), (3, 0));
+        assert_eq!(bench.sweep(64, Sweep::Insert, unknown), (2, 0));
+        assert_eq!(bench.sweep(63, Sweep::Insert, unknown), (3, 0));
         assert_eq!(bench.open(63), DONE);
+        assert_eq!(bench.sweep(63, Sweep::Insert, unknown), (14, 0));
         assert_eq!(bench.sweep(63, Sweep::Insert, none), (5, 0));
         assert_eq!(bench.sweep(63, Sweep::Insert, empty), (13, 0));
         assert_eq!(bench.sweep(63, Sweep::Insert, good), (7, 0));

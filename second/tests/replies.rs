@@ -3,25 +3,32 @@
 mod common;
 
 use common::*;
-use second::service::Address;
+use second::address::Address;
+
+const NO_EDITION: Address = Address {
+    edition: 3,
+    ..NO_ROW
+};
 
 const NO_ROW: Address = Address {
+    edition: 2,
     zoom: 4,
     column: 0,
     row: 16,
 };
 
 #[test]
-fn the_lowest_number_that_applies_is_given() {
-    // Nothing fits: unsound, job above 63, job not open, no such row, no room at all.
+fn the_first_number_that_applies_is_given() {
+    // Nothing fits: unsound, job above 63, job not open, no such edition and row, no room at all.
     let mut bench = Bench::started((1, 1, 8), &[A]);
     bench.tables.tiles[0] += 16;
-    assert_eq!(bench.ins(64, NO_ROW), refused(1));
+    assert_eq!(bench.ins(64, NO_EDITION), refused(1));
     bench.tables.tiles[0] -= 16;
-    assert_eq!(bench.ins(64, NO_ROW), refused(2));
-    assert_eq!(bench.ins(63, NO_ROW), refused(3));
+    assert_eq!(bench.ins(64, NO_EDITION), refused(2));
+    assert_eq!(bench.ins(63, NO_EDITION), refused(3));
     assert_eq!(bench.open(63), DONE);
     assert_eq!(bench.open(63), refused(4));
+    assert_eq!(bench.ins(63, NO_EDITION), refused(14));
     assert_eq!(bench.ins(63, NO_ROW), refused(5));
     assert_eq!(bench.ins(63, B), refused(7));
     assert_eq!(bench.mem(63, B), refused(9));

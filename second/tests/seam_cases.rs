@@ -3,8 +3,8 @@
 mod common;
 
 use common::*;
+use second::address::Address;
 use second::journal::{Reader, Reading};
-use second::service::Address;
 
 #[test]
 fn a_second_job_may_not_insert_what_is_unfinished() {
@@ -98,6 +98,7 @@ fn shortcut_recovering_every_delete_by_an_insert() {
 fn shortcut_giving_a_deleted_place_away() {
     let mut bench = Bench::with_places(2, &[A, B]);
     let other = Address {
+        edition: 2,
         zoom: 5,
         column: 0,
         row: 0,

@@ -5,10 +5,10 @@ mod common;
 
 use common::tables::{damage, some_address, some_bench};
 use common::*;
+use second::address::Address;
 use second::operation::{Procedure, PROCEDURES};
 use second::random::Random;
 use second::rule::Rule;
-use second::service::Address;
 use second::soundness::{is_change, job_of, key_of, kind_of};
 use std::collections::{BTreeMap, BTreeSet};
 
@@ -67,7 +67,30 @@ fn lacks_room(bench: &Bench, new: u64) -> bool {
     kind_of(new) == 1 && !has_its_place && full
 }
 
-/// The entry that an operation would be; none where it is refused by 2, 3 or 5.
+/// The key of an address, or 14 or 5.
+fn key_at(address: Address) -> Result<u32, u8> {
+    let turned = match address.edition {
+        1 => true,
+        2 => false,
+        _ => return Err(14),
+    };
+    let rows = match address.zoom {
+        4..=14 => 1 << address.zoom,
+        _ => return Err(5),
+    };
+    if !(0..rows).contains(&address.row) {
+        return Err(5);
+    }
+    let row = if turned {
+        rows - 1 - address.row
+    } else {
+        address.row
+    };
+    let column = address.column.rem_euclid(rows);
+    Ok((u32::from(address.zoom) << 28) + ((column as u32) << 14) + row as u32)
+}
+
+/// The entry that an operation would be; none where it is refused by 2, 3, 14 or 5.
 fn new_entry(bench: &Bench, job: u8, procedure: Procedure, address: Address) -> Result<u64, u8> {
     if job > 63 {
         return Err(2);
@@ -75,7 +98,7 @@ fn new_entry(bench: &Bench, job: u8, procedure: Procedure, address: Address) -> 
     if !bench.session.open[usize::from(job)] {
         return Err(3);
     }
-    let key = address.tile().ok_or(5)?.key();
+    let key = key_at(address)?;
     let kind = kind_on(procedure, bench.keys().contains(&key));
     Ok((kind << 40) + (u64::from(job) << 32) + u64::from(key))
 }
@@ -142,7 +165,7 @@ fn operations_are_answered_and_done_by_the_words_of_the_papers() {
         *replies.entry(met).or_insert(0) += 1;
     }
     for rule in [1, 2] {
-        for number in [0, 2, 3, 5, 6, 7, 8, 9] {
+        for number in [0, 2, 3, 5, 6, 7, 8, 9, 14] {
             let times = replies.get(&(rule, number)).copied().unwrap_or(0);
             assert!(times > 20, "{:?}", replies);
         }

@@ -4,9 +4,9 @@ mod common;
 
 use common::tables::{damage, some_bench};
 use common::*;
+use second::address::Address;
 use second::random::Random;
 use second::rectangle::{Rectangle, Sweep, SWEEPS};
-use second::service::Address;
 use second::session::{MOST_JOURNAL, MOST_OPERATIONS, MOST_TILES};
 use std::collections::BTreeMap;
 
@@ -15,24 +15,36 @@ const ROUNDS: usize = 60_000;
 /// Few tiles round those that the tables have, and now and then one that is refused.
 fn some_rectangle(random: &mut Random) -> Rectangle {
     let west = random.pick(&[-2, -1, 0, 6, 14, 15, i32::MIN, i32::MAX - 2]);
-    let top = random.pick(&[5, 5, 5, 4, 3, 15]);
+    let north = random.pick(&[5, 5, 5, 4, 3, 15]);
+    let south = north + random.pick(&[0, 0, 0, 1, 2]);
+    let (edition, top, bottom) = match random.below(12) {
+        0..=5 => (1, 15 - north, 15 - south),
+        6 => (random.pick(&[0, 3, 255]), north, south),
+        _ => (2, north, south),
+    };
     Rectangle {
+        edition,
         zoom: random.pick(&[4, 4, 4, 4, 4, 4, 4, 3, 5]),
         west,
         east: west.saturating_add(random.pick(&[0, 0, 1, 2, -1])),
         top,
-        bottom: top + random.pick(&[0, 0, 0, 1, 2]),
+        bottom,
     }
 }
 
 /// The addresses of a rectangle in the order of its list.
 fn addresses(place: Rectangle) -> Vec<Address> {
+    let rows: Vec<i32> = match place.edition {
+        1 => (place.bottom..=place.top).rev().collect(),
+        _ => (place.top..=place.bottom).collect(),
+    };
     let columns = place.west..=place.east;
     let list = columns.flat_map(|column| {
-        (place.top..=place.bottom).map(move |row| Address {
+        rows.iter().map(move |row| Address {
+            edition: place.edition,
             zoom: place.zoom,
             column,
-            row,
+            row: *row,
         })
     });
     list.collect()
@@ -66,8 +78,8 @@ fn with_room_judged(bench: &Bench, number: u8) -> Bench {
     bench
 }
 
-/// The reply to a rectangle that 1, 2, 3, 5 and 13 do not refuse: 6 for the first held tile on the
-/// tables as they stand; then a number exactly when the list, taken tile after tile, runs out of
+/// The reply to a rectangle that 1, 2, 3, 14, 5 and 13 do not refuse: 6 for the first held tile on
+/// the tables as they stand; then a number exactly when the list, taken tile after tile, runs out of
 /// that room, each room judged alone.
 fn due_reply(bench: &Bench, job: u8, sweep: Sweep, place: Rectangle) -> (u8, u8) {
     for address in addresses(place) {
@@ -131,7 +143,7 @@ fn a_rectangle_is_done_exactly_when_its_operations_are() {
         }
     }
     for rule in [1, 2] {
-        for number in [0, 1, 2, 3, 5, 6, 7, 8, 9, 13] {
+        for number in [0, 1, 2, 3, 5, 6, 7, 8, 9, 13, 14] {
             let times = met.get(&(rule, number)).copied().unwrap_or(0);
             assert!(times > 50, "{} {}: {:?}", rule, number, met);
         }

@@ -103,7 +103,7 @@ fn a_line_of_any_length_is_answered_by_one_line() {
 #[test]
 fn no_command_is_longer_than_the_most_bytes() {
     let longest = [
-        "insall 255 255 -2147483648 -2147483648 -2147483648 -2147483648",
+        "insall 255 255 255 -2147483648 -2147483648 -2147483648 -2147483648",
         "entry 4294967295 18446744073709551615",
         "operations 4294967295",
     ];

@@ -4,11 +4,12 @@ mod common;
 
 use common::turns::{columns_near_edges, span_of, turns_of, LEVELS};
 use common::*;
+use second::address::Address;
 use second::operation::{Procedure, PROCEDURES};
 use second::rectangle::{Rectangle, Sweep, SWEEPS};
 use second::reply::{numbers, sweep_numbers, Span};
 use second::rule::{Rule, RULES};
-use second::service::{self, Address};
+use second::service;
 
 /// Number, answer, holder and turns.
 fn operated(bench: &mut Bench, job: u8, word: Procedure, place: Address) -> (u8, u8, u8, i32) {
@@ -28,6 +29,7 @@ fn swept(bench: &mut Bench, job: u8, sweep: Sweep, place: Rectangle) -> (u8, u8,
 fn row_from(zoom: u8, west: i32, width: i32) -> Option<Rectangle> {
     let east = west.checked_add(width - 1)?;
     Some(Rectangle {
+        edition: 2,
         zoom,
         west,
         east,
@@ -49,6 +51,7 @@ fn operations_of_every_kind_tell_their_turns() {
     let addresses = LEVELS.flat_map(|zoom| {
         let columns = columns_near_edges(zoom).into_iter();
         columns.map(move |column| Address {
+            edition: 2,
             zoom,
             column,
             row: 5,
@@ -118,6 +121,7 @@ fn as_wide_as_the_level_is_one_turn_or_two() {
 #[test]
 fn refused_operations_tell_no_turns() {
     let (a, b) = (turned(A, 4000), turned(B, -4000));
+    let no_edition = Address { edition: 3, ..a };
     let no_row = Address { row: 16, ..a };
     let no_zoom = Address { zoom: 15, ..a };
     let refusal = |number| (number, 0, 0, 0);
@@ -130,6 +134,7 @@ fn refused_operations_tell_no_turns() {
         assert_eq!(operated(&mut bench, 64, insert, a), refusal(2));
         assert_eq!(operated(&mut bench, 1, insert, a), refusal(3));
         assert_eq!(bench.open(1), DONE);
+        assert_eq!(operated(&mut bench, 1, insert, no_edition), refusal(14));
         assert_eq!(operated(&mut bench, 1, insert, no_row), refusal(5));
         assert_eq!(operated(&mut bench, 1, insert, no_zoom), refusal(5));
         assert_eq!(operated(&mut bench, 1, insert, b), refusal(7));
@@ -148,6 +153,7 @@ fn refused_operations_tell_no_turns() {
 #[test]
 fn refused_rectangles_tell_no_turns() {
     let across = |zoom, rows: (i32, i32)| Rectangle {
+        edition: 2,
         zoom,
         west: 69_999,
         east: 70_000,
@@ -166,6 +172,8 @@ fn refused_rectangles_tell_no_turns() {
         assert_eq!(swept(&mut bench, 1, insert, good), refusal(3));
         assert_eq!(bench.open(1), DONE);
         assert_eq!(bench.open(2), DONE);
+        let unknown = Rectangle { edition: 3, ..good };
+        assert_eq!(swept(&mut bench, 1, insert, unknown), refusal(14));
         let none = across(4, (5, 16));
         assert_eq!(swept(&mut bench, 1, insert, none), refusal(5));
         let none = across(15, (5, 5));

@@ -4,12 +4,13 @@ mod common;
 
 use common::talk::holds;
 use common::turns::{columns_near_edges, columns_of, fitting_turns, turns_of, LEVELS};
+use second::address::{address_step, Address};
 use second::random::Random;
-use second::service::{address_step, Address};
 
 /// The turns and the key's column that the address step answers.
 fn step(zoom: u8, column: i32) -> (i32, i128) {
     let address = Address {
+        edition: 2,
         zoom,
         column,
         row: 5,
@@ -108,20 +109,19 @@ fn columns_anywhere_have_one_number_of_turns() {
 
 #[test]
 fn a_refused_address_has_no_turns() {
-    for (zoom, row) in [
-        (4, 16),
-        (4, -1),
-        (3, 0),
-        (15, 0),
-        (14, 16_384),
-        (255, i32::MIN),
+    for (edition, zoom, row, number) in [
+        (2, 4, 16, 5),
+        (1, 4, -1, 5),
+        (2, 3, 0, 5),
+        (1, 15, 0, 5),
+        (2, 14, 16_384, 5),
+        (1, 255, i32::MIN, 5),
+        (0, 4, 5, 14),
+        (3, 3, -1, 14),
     ] {
         for column in [i32::MIN, -1, 0, 70_000, i32::MAX] {
-            let line = format!(
-                "address {} {} {} => reply 5 key 0 turns 0",
-                zoom, column, row
-            );
-            holds(&line);
+            let line = format!("address {edition} {zoom} {column} {row}");
+            holds(&format!("{} => reply {} key 0 turns 0", line, number));
         }
     }
 }

@@ -1,16 +1,19 @@
 //! Occasions that the number in an answer does not show: what is special about a command before it
-//! is obeyed, and about the turns that it is answered. The census counts them, so that none is left
-//! out.
+//! is obeyed, and about the place that it names once it is answered. The census counts them, so
+//! that none is left out.
 
+mod editions;
 mod mending;
 mod named;
 mod own_tiles;
+mod places;
 mod rectangles;
 mod turns;
 
 use crate::console::Console;
 use crate::line::Command;
 use named::{applying, names_of};
+use places::place_of;
 
 /// The occasions that a command is, on the console as it stands.
 pub fn occasions(console: &Console, command: Command) -> Vec<&'static str> {
@@ -25,7 +28,10 @@ pub fn occasions(console: &Console, command: Command) -> Vec<&'static str> {
 
 /// The occasions that a command is by the number that it is answered.
 pub fn occasions_told(command: Command, number: u8) -> Vec<String> {
-    turns::told(command, number)
+    let place = place_of(command);
+    place.map_or(Vec::new(), |place| {
+        [turns::told(&place, number), editions::told(&place, number)].concat()
+    })
 }
 
 pub fn all_names() -> impl Iterator<Item = String> {
@@ -35,4 +41,5 @@ pub fn all_names() -> impl Iterator<Item = String> {
         .chain(names_of(&mending::NAMED))
         .map(str::to_string)
         .chain(turns::all_names())
+        .chain(editions::all_names())
 }

@@ -75,12 +75,17 @@ impl Shape {
         if !(0..side).contains(&top) || !(0..side).contains(&bottom) {
             return None;
         }
+        let (north, south) = match rectangle.edition {
+            1 => (bottom, top),
+            2 => (top, bottom),
+            _ => return None,
+        };
         Some(Shape {
             side,
             west: rectangle.west,
             east: rectangle.east,
             width: i64::from(rectangle.east) - i64::from(rectangle.west) + 1,
-            height: bottom - top + 1,
+            height: south - north + 1,
         })
     }
 

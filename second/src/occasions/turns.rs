@@ -1,10 +1,10 @@
 //! Turns that are told, on every level and wherever they change, and turns that a refusal keeps
 //! back.
 
-use crate::line::{Call, Command};
+use crate::address::Address;
 use crate::occasions::named::{applying, names_of, Named};
+use crate::occasions::places::{Place, ADDRESS, OPERATION, RECTANGLE};
 use crate::rectangle::Rectangle;
-use crate::service::Address;
 use crate::tile::side_of;
 use std::ops::RangeInclusive;
 
@@ -56,9 +56,9 @@ const WIDE_LEVELS: RangeInclusive<u8> = 4..=8;
 
 /// The calls that answer turns, and the numbers by which they are refused.
 const REFUSALS: [(&str, &[u8]); 3] = [
-    ("address", &[5]),
-    ("operation", &[1, 2, 3, 5, 6, 7, 8, 9]),
-    ("rectangle", &[1, 2, 3, 5, 13, 6, 7, 8, 9]),
+    (ADDRESS, &[14, 5]),
+    (OPERATION, &[1, 2, 3, 14, 5, 6, 7, 8, 9]),
+    (RECTANGLE, &[1, 2, 3, 14, 5, 13, 6, 7, 8, 9]),
 ];
 
 struct Column {
@@ -83,21 +83,11 @@ impl Ends {
     }
 }
 
-/// What a command shows about turns that is answered by a reply of this number.
-pub fn told(command: Command, number: u8) -> Vec<String> {
-    match command {
-        Command::Address(address) => of_address("address", address, number),
-        Command::Call(Call::Operate(_, _, address)) => of_address("operation", address, number),
-        Command::Sweep(_, _, rectangle) => of_rectangle(rectangle, number),
-        Command::Call(Call::Start(..) | Call::Open(_) | Call::Commit(_) | Call::Abort(_))
-        | Command::Lend(..)
-        | Command::Read(_)
-        | Command::Replay(..)
-        | Command::Mend(..)
-        | Command::Sum
-        | Command::Show
-        | Command::Help
-        | Command::Change(_) => Vec::new(),
+/// What a place shows about turns that is answered by a reply of this number.
+pub fn told(place: &Place, number: u8) -> Vec<String> {
+    match place {
+        Place::Address(call, address) => of_address(call, *address, number),
+        Place::Rectangle(rectangle) => of_rectangle(*rectangle, number),
     }
 }
 
@@ -117,7 +107,7 @@ fn of_rectangle(rectangle: Rectangle, number: u8) -> Vec<String> {
         zoom, west, east, ..
     } = rectangle;
     if number != 0 {
-        return kept_back("rectangle", &[west, east], number);
+        return kept_back(RECTANGLE, &[west, east], number);
     }
     let known = || {
         side_of(u32::from(zoom)).map(|side| Ends {
@@ -127,7 +117,7 @@ fn of_rectangle(rectangle: Rectangle, number: u8) -> Vec<String> {
         })
     };
     let names = [applying(&ENDS, known()), applying(&WIDE, known())].concat();
-    on_level("rectangle", zoom, &names)
+    on_level(RECTANGLE, zoom, &names)
 }
 
 fn on_level(call: &str, zoom: u8, names: &[&str]) -> Vec<String> {
@@ -153,14 +143,14 @@ pub fn all_names() -> Vec<String> {
     let mut names = Vec::new();
     for zoom in LEVELS {
         let columns: Vec<&str> = names_of(&COLUMNS).collect();
-        names.extend(on_level("address", zoom, &columns));
-        names.extend(on_level("operation", zoom, &columns));
+        names.extend(on_level(ADDRESS, zoom, &columns));
+        names.extend(on_level(OPERATION, zoom, &columns));
         let ends: Vec<&str> = names_of(&ENDS).collect();
-        names.extend(on_level("rectangle", zoom, &ends));
+        names.extend(on_level(RECTANGLE, zoom, &ends));
     }
     for zoom in WIDE_LEVELS {
         let wide: Vec<&str> = names_of(&WIDE).collect();
-        names.extend(on_level("rectangle", zoom, &wide));
+        names.extend(on_level(RECTANGLE, zoom, &wide));
     }
     for (call, numbers) in REFUSALS {
         names.extend(numbers.iter().map(|number| name_kept_back(call, *number)));

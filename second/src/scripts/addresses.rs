@@ -1,7 +1,7 @@
-//! Few tiles with many spellings, most of them where the world closes.
+//! Few tiles with many spellings in both editions, most of them where the world closes.
 
+use crate::address::Address;
 use crate::random::Random;
-use crate::service::Address;
 use crate::tile::Tile;
 
 const SEAM_COLUMNS: [i32; 13] = [
@@ -22,13 +22,38 @@ const SEAM_COLUMNS: [i32; 13] = [
 
 pub const LEVELS: [u8; 11] = [4, 5, 6, 7, 8, 9, 10, 11, 12, 13, 14];
 
+pub const EDITIONS: [u8; 2] = [1, 2];
+
 /// The addresses one episode speaks of.
 pub struct Pool {
     addresses: Vec<Address>,
 }
 
-fn last_row(zoom: u8) -> i32 {
+pub fn last_row(zoom: u8) -> i32 {
     (1 << zoom) - 1
+}
+
+/// A byte that stands for no edition.
+pub fn no_edition(random: &mut Random) -> u8 {
+    let stray = random.byte().max(3);
+    random.pick(&[0, 3, 255, 128, stray])
+}
+
+/// The address of the same tile in the other edition.
+pub fn in_other_edition(address: Address) -> Address {
+    Address {
+        edition: 3 - address.edition,
+        row: last_row(address.zoom) - address.row,
+        ..address
+    }
+}
+
+pub fn either_edition(random: &mut Random, address: Address) -> Address {
+    if random.one_in(2) {
+        address
+    } else {
+        in_other_edition(address)
+    }
 }
 
 /// Columns of a level where a turn begins or ends, also the first turn and the last.
@@ -74,40 +99,52 @@ fn any_served(random: &mut Random) -> Address {
         1 => last_row(zoom),
         _ => 5,
     };
-    let column = edge_column(random, zoom);
-    Address { zoom, column, row }
+    let from_north = Address {
+        edition: 2,
+        zoom,
+        column: edge_column(random, zoom),
+        row,
+    };
+    either_edition(random, from_north)
 }
 
 /// Any column and any row of any level.
 pub fn anywhere(random: &mut Random) -> Address {
     let zoom = random.pick(&LEVELS);
-    let row = i32::try_from(random.below(1 << zoom)).unwrap_or(0);
-    let column = random.word() as i32;
-    Address { zoom, column, row }
+    Address {
+        edition: random.pick(&EDITIONS),
+        zoom,
+        column: random.word() as i32,
+        row: i32::try_from(random.below(1 << zoom)).unwrap_or(0),
+    }
 }
 
-/// An address that is refused by its zoom, its row or both.
+/// An address that is refused by its edition, its zoom or its row, or by several of them.
 pub fn refused(random: &mut Random) -> Address {
     let mut address = any_served(random);
-    let wrong = random.below(5);
-    if wrong != 0 {
+    let wrong = random.pick(&[1, 1, 2, 2, 3, 3, 4, 5, 6, 7]);
+    if wrong & 1 != 0 {
         let side = last_row(address.zoom) + 1;
         address.row = random.pick(&[-1, side, side + 1, 16_384, i32::MIN, i32::MAX]);
     }
-    if wrong <= 1 {
+    if wrong & 2 != 0 {
         address.zoom = random.pick(&[0, 1, 3, 15, 16, 31, 32, 36, 255]);
+    }
+    if wrong & 4 != 0 {
+        address.edition = no_edition(random);
     }
     address
 }
 
 impl Pool {
-    /// A pool that names few tiles: one or two addresses, and the same rows all round the seam.
+    /// A pool that names few tiles: one or two addresses, and the same rows all round the seam, in
+    /// both editions.
     pub fn few(random: &mut Random) -> Pool {
         let first = any_served(random);
         let mut addresses = vec![first];
         for _ in 0..random.between(1, 5) {
             let column = edge_column(random, first.zoom);
-            addresses.push(Address { column, ..first });
+            addresses.push(either_edition(random, Address { column, ..first }));
         }
         if random.one_in(2) {
             addresses.push(any_served(random));

@@ -16,18 +16,20 @@ use Type::{Count, Entry, Signed, Small};
 
 type Form = (&'static str, &'static [Type]);
 
+const RECTANGLE: [Type; 7] = [Small, Small, Small, Signed, Signed, Signed, Signed];
+
 const FORMS: [Form; 23] = [
     ("lend", &[Count, Count, Count]),
     ("start", &[Count, Small]),
     ("open", &[Small]),
-    ("ins", &[Small, Small, Signed, Signed]),
-    ("del", &[Small, Small, Signed, Signed]),
-    ("mem", &[Small, Small, Signed, Signed]),
-    ("insall", &[Small, Small, Signed, Signed, Signed, Signed]),
-    ("delall", &[Small, Small, Signed, Signed, Signed, Signed]),
+    ("ins", &[Small, Small, Small, Signed, Signed]),
+    ("del", &[Small, Small, Small, Signed, Signed]),
+    ("mem", &[Small, Small, Small, Signed, Signed]),
+    ("insall", &RECTANGLE),
+    ("delall", &RECTANGLE),
     ("commit", &[Small]),
     ("abort", &[Small]),
-    ("address", &[Small, Signed, Signed]),
+    ("address", &[Small, Small, Signed, Signed]),
     ("read", &[Count]),
     ("replay", &[Count, Count]),
     ("mend", &[Count, Count, Count]),

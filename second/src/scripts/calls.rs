@@ -4,6 +4,7 @@ use crate::random::Random;
 use crate::rule::RULES;
 use crate::scripts::addresses::{anywhere, refused, Pool};
 use crate::scripts::rectangles;
+use crate::scripts::spelling::{address_line, operation_line};
 use crate::scripts::writer::Writer;
 
 const COMMON_JOBS: [u8; 8] = [0, 1, 2, 3, 3, 4, 62, 63];
@@ -73,11 +74,7 @@ pub fn rectangle(writer: &mut Writer, pool: &Pool) {
 
 pub fn operation(random: &mut Random, pool: &Pool, job: u8) -> String {
     let word = random.pick(&["ins", "ins", "ins", "del", "del", "mem"]);
-    let place = pool.any(random);
-    format!(
-        "{} {} {} {} {}",
-        word, job, place.zoom, place.column, place.row
-    )
+    operation_line(word, job, pool.any(random))
 }
 
 fn address_step(random: &mut Random, pool: &Pool) -> String {
@@ -86,7 +83,7 @@ fn address_step(random: &mut Random, pool: &Pool) -> String {
         2..=3 => anywhere(random),
         _ => pool.any(random),
     };
-    format!("address {} {} {}", place.zoom, place.column, place.row)
+    address_line(place)
 }
 
 pub fn address_steps(writer: &mut Writer, times: usize) {

@@ -4,6 +4,7 @@ use crate::rule::RULES;
 use crate::scripts::addresses::Pool;
 use crate::scripts::breaking;
 use crate::scripts::calls;
+use crate::scripts::counting;
 use crate::scripts::filling;
 use crate::scripts::mending;
 use crate::scripts::nowhere;
@@ -15,30 +16,43 @@ use crate::scripts::wild;
 use crate::scripts::writer::Writer;
 use crate::session::length_of;
 
+type Episode = fn(&mut Writer);
+
+/// Every sort of episode, and how often it comes beside the others.
+const EPISODES: [(usize, Episode); 23] = [
+    (130, side_by_side),
+    (65, small_journal),
+    (95, from_nowhere),
+    (105, broken_tables),
+    (40, wild_damage),
+    (45, replays::episode),
+    (35, replays::foreign_journal),
+    (110, limits),
+    (10, only_bad_lines),
+    (7, crowd),
+    (11, filling::fill_middle_tables),
+    (3, filling::fill_journal_from_outside),
+    (2, filling::fill_operations_from_outside),
+    (2, filling::fill_tiles_from_outside),
+    (3, replacing::episode),
+    (40, sweeping::episode),
+    (120, sweeping::at_the_last_place),
+    (60, sweeping::held),
+    (8, sweeping::on_many_tiles),
+    (25, sweeping::edges),
+    (80, turning::episode),
+    (80, counting::episode),
+    (4, mending::at_the_most_bytes),
+];
+
 pub fn episode(writer: &mut Writer) {
-    match writer.random.below(960) {
-        0..=129 => side_by_side(writer),
-        130..=194 => small_journal(writer),
-        195..=289 => from_nowhere(writer),
-        290..=394 => broken_tables(writer),
-        395..=434 => wild_damage(writer),
-        435..=479 => replays::episode(writer),
-        480..=514 => replays::foreign_journal(writer),
-        515..=584 => limits(writer),
-        585..=594 => only_bad_lines(writer),
-        595..=601 => crowd(writer),
-        602..=612 => filling::fill_middle_tables(writer),
-        613..=615 => filling::fill_journal_from_outside(writer),
-        616..=617 => filling::fill_operations_from_outside(writer),
-        618..=619 => filling::fill_tiles_from_outside(writer),
-        620..=622 => replacing::episode(writer),
-        623..=662 => sweeping::episode(writer),
-        663..=782 => sweeping::at_the_last_place(writer),
-        783..=842 => sweeping::held(writer),
-        843..=850 => sweeping::on_many_tiles(writer),
-        851..=875 => sweeping::edges(writer),
-        876..=955 => turning::episode(writer),
-        _ => mending::at_the_most_bytes(writer),
+    let all: usize = EPISODES.iter().map(|(often, _)| often).sum();
+    let mut left = writer.random.below(all);
+    for (often, episode) in EPISODES {
+        if left < often {
+            return episode(writer);
+        }
+        left -= often;
     }
 }
 

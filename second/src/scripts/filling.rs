@@ -2,34 +2,24 @@
 
 use crate::scripts::addresses::{nth_tile, Pool};
 use crate::scripts::calls;
+use crate::scripts::spelling::{address_of, operation_line};
 use crate::scripts::writer::Writer;
 use crate::session::{MOST_JOURNAL, MOST_OPERATIONS, MOST_TILES};
 
 /// Refused calls in a row after which a filling run ends.
 const ENOUGH_REFUSALS: usize = 6;
 
-fn operation_line(word: &str, job: usize, n: usize) -> Option<String> {
-    let tile = nth_tile(n)?;
-    Some(format!(
-        "{} {} {} {} {}",
-        word,
-        job,
-        tile.zoom(),
-        tile.column(),
-        tile.row()
-    ))
-}
-
 /// Runs one word on tile after tile. When the operations table is full the job is committed and
 /// opened again; any other refusal is tried a few times more and then ends the run.
-fn run_through(writer: &mut Writer, word: &str, job: usize, first: usize) {
+fn run_through(writer: &mut Writer, word: &str, job: u8, first: usize) {
     let mut refusals = 0;
     let mut n = first;
     while refusals < ENOUGH_REFUSALS {
-        let answer = match operation_line(word, job, n) {
+        let place = match nth_tile(n) {
             None => return,
-            Some(line) => writer.tell(line),
+            Some(tile) => address_of(&mut writer.random, tile),
         };
+        let answer = writer.tell(operation_line(word, job, place));
         n += 1;
         if answer.starts_with("reply 8 ") {
             writer.tell(format!("commit {}", job));

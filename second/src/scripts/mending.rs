@@ -5,7 +5,9 @@ use crate::journal::Record;
 use crate::mend::mended_length;
 use crate::random::Random;
 use crate::replay::stopped;
-use crate::scripts::rectangles::{line, sized};
+use crate::scripts::addresses::EDITIONS;
+use crate::scripts::rectangles::sized;
+use crate::scripts::spelling::rectangle_line;
 use crate::scripts::writer::Writer;
 use crate::session::{length_of, MOST_JOURNAL, MOST_OPERATIONS};
 
@@ -47,6 +49,13 @@ fn free_bytes(writer: &Writer) -> usize {
     writer.console.tables.journal.len() - used - endings
 }
 
+/// Job 1 deletes so many tiles that are not there.
+fn delete_absent(writer: &mut Writer, width: i32) {
+    let edition = writer.random.pick(&EDITIONS);
+    let rectangle = sized(edition, 9, (-3, 0), width, 1);
+    writer.tell(rectangle_line("delall", 1, rectangle));
+}
+
 /// Job 1 deletes what is not there, rectangle after rectangle, until few bytes are left; these are
 /// used up by opening jobs.
 fn fill_journal(writer: &mut Writer) {
@@ -59,7 +68,7 @@ fn fill_journal(writer: &mut Writer) {
             writer.tell("commit 1");
             writer.tell("open 1");
         }
-        writer.tell(line("delall", 1, sized(9, (-3, 0), 256, 1)));
+        delete_absent(writer, 256);
     }
     writer.tell("commit 1");
     writer.tell("open 1");
@@ -69,7 +78,7 @@ fn fill_journal(writer: &mut Writer) {
         .rev()
         .find(|count| (free - 10 * count) % 8 == 0);
     let width = operations.and_then(|count| i32::try_from(count).ok());
-    writer.tell(line("delall", 1, sized(9, (-3, 0), width.unwrap_or(1), 1)));
+    delete_absent(writer, width.unwrap_or(1));
     for job in 2..2 + free_bytes(writer) / 8 {
         writer.tell(format!("open {}", job));
     }

@@ -4,6 +4,7 @@ mod addresses;
 mod bad_lines;
 mod breaking;
 mod calls;
+mod counting;
 mod damage;
 mod episodes;
 mod filling;
@@ -13,6 +14,7 @@ mod nowhere;
 mod rectangles;
 mod replacing;
 mod replays;
+mod spelling;
 mod sweeping;
 mod turning;
 mod wild;
@@ -20,7 +22,6 @@ mod writer;
 mod wrong_entries;
 mod wrong_tiles;
 
-use crate::random::Random;
 use writer::Writer;
 
 /// Every so many seeds a script fills the largest tables, call by call or by rectangles, has lines
@@ -35,7 +36,7 @@ pub const MEBIBYTE: usize = 1_048_576;
 
 /// The script of a seed, of about so many lines.
 pub fn script(seed: u64, lines: usize) -> Vec<u8> {
-    let mut writer = Writer::new(Random::seeded(seed));
+    let mut writer = Writer::new(seed);
     match seed % SEEDS_ROUND {
         FILLING_SEED => filling::fill_largest_tables(&mut writer),
         SWEEPING_SEED => sweeping::fill_largest_tables(&mut writer),

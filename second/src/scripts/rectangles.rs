@@ -1,8 +1,10 @@
-//! Rectangles: few tiles near the others, across the seam, and at the edges of what is taken.
+//! Rectangles in both editions: few tiles near the others, across the seam, and at the edges of
+//! what is taken.
 
 use crate::random::Random;
 use crate::rectangle::Rectangle;
-use crate::scripts::addresses::{anywhere, ends_of_turns, some_level, Pool};
+use crate::scripts::addresses::{anywhere, ends_of_turns, no_edition, some_level, Pool, EDITIONS};
+use crate::scripts::spelling::rectangle_line;
 use crate::tile::side_of;
 
 /// Zoom, width and height of rectangles with about as many tiles as are taken.
@@ -47,29 +49,31 @@ const FAR_COLUMNS: [(i32, i32); 14] = [
     (i32::MAX, i32::MIN),
 ];
 
-pub fn line(word: &str, job: u8, rectangle: Rectangle) -> String {
-    format!(
-        "{} {} {} {} {} {} {}",
-        word, job, rectangle.zoom, rectangle.west, rectangle.east, rectangle.top, rectangle.bottom
-    )
+/// The rectangle between these columns and these rows, each by its smaller and its larger number.
+/// From the south the larger row is the top one.
+pub fn between(edition: u8, zoom: u8, columns: (i32, i32), rows: (i32, i32)) -> Rectangle {
+    let (top, bottom) = if edition == 1 { (rows.1, rows.0) } else { rows };
+    Rectangle {
+        edition,
+        zoom,
+        west: columns.0,
+        east: columns.1,
+        top,
+        bottom,
+    }
 }
 
-/// A rectangle of this size with its north-western tile there.
-pub fn sized(zoom: u8, corner: (i32, i32), width: i32, height: i32) -> Rectangle {
-    let (west, top) = corner;
-    Rectangle {
-        zoom,
-        west,
-        east: west.saturating_add(width - 1),
-        top,
-        bottom: top.saturating_add(height - 1),
-    }
+/// A rectangle of this size from a column and a row on, which are those of the smallest numbers.
+pub fn sized(edition: u8, zoom: u8, from: (i32, i32), width: i32, height: i32) -> Rectangle {
+    let end = |first: i32, size: i32| first.saturating_add(size - 1);
+    let columns = (from.0, end(from.0, width));
+    between(edition, zoom, columns, (from.1, end(from.1, height)))
 }
 
 pub fn some_line(random: &mut Random, pool: &Pool, job: u8) -> String {
     let word = random.pick(&["insall", "insall", "delall"]);
     let rectangle = some_rectangle(random, pool);
-    line(word, job, rectangle)
+    rectangle_line(word, job, rectangle)
 }
 
 fn some_rectangle(random: &mut Random, pool: &Pool) -> Rectangle {
@@ -82,11 +86,12 @@ fn some_rectangle(random: &mut Random, pool: &Pool) -> Rectangle {
 
 /// A rectangle that is just taken, or not for one reason or two.
 pub fn at_an_edge(random: &mut Random, pool: &Pool) -> Rectangle {
-    match random.below(6) {
+    match random.below(7) {
         0 => as_wide_as_the_level(random),
         1 => large(random),
         2..=3 => far(random),
         4 => out_of_range(random, pool),
+        5 => misread(random, pool),
         _ => empty(random, pool),
     }
 }
@@ -95,21 +100,18 @@ pub fn at_an_edge(random: &mut Random, pool: &Pool) -> Rectangle {
 fn near(random: &mut Random, pool: &Pool) -> Rectangle {
     let address = pool.any(random);
     let west = address.column.saturating_sub(random.pick(&[0, 0, 1, 2]));
-    let top = address.row.saturating_sub(random.pick(&[0, 0, 0, 1]));
-    let width = random.pick(&[1, 1, 2, 3, 4]);
-    let height = random.pick(&[1, 1, 2]);
-    let rectangle = sized(address.zoom, (west, top), width, height);
-    if random.one_in(8) {
-        return rectangle;
-    }
-    // Mostly the rows stay on the level.
-    let rows = side_of(u32::from(address.zoom)).unwrap_or(1);
-    let last_row = i32::try_from(rows - 1).unwrap_or(i32::MAX);
-    Rectangle {
-        top: rectangle.top.max(0),
-        bottom: rectangle.bottom.min(last_row),
-        ..rectangle
-    }
+    let east = west.saturating_add(random.pick(&[0, 0, 1, 2, 3]));
+    let first = address.row.saturating_sub(random.pick(&[0, 0, 0, 1]));
+    let last = first.saturating_add(random.pick(&[0, 0, 1]));
+    let rows = if random.one_in(8) {
+        (first, last)
+    } else {
+        // Mostly the rows stay on the level.
+        let rows = side_of(u32::from(address.zoom)).unwrap_or(1);
+        let last_row = i32::try_from(rows - 1).unwrap_or(i32::MAX);
+        (first.max(0), last.min(last_row))
+    };
+    between(address.edition, address.zoom, (west, east), rows)
 }
 
 /// A few more tiles, often across the seam.
@@ -118,7 +120,8 @@ pub fn middling(random: &mut Random) -> Rectangle {
     let west = random.pick(&[-1, -2, 0, 14, 15, i32::MIN, i32::MAX - 4]);
     let width = random.between(1, 4) as i32;
     let height = random.between(1, 3) as i32;
-    sized(zoom, (west, random.pick(&[0, 5])), width, height)
+    let from = (west, random.pick(&[0, 5]));
+    sized(random.pick(&EDITIONS), zoom, from, width, height)
 }
 
 fn across_the_seam(random: &mut Random) -> Rectangle {
@@ -127,7 +130,8 @@ fn across_the_seam(random: &mut Random) -> Rectangle {
     let end = random.pick(&ends_of_turns(zoom));
     let west = random.pick(&[end, end.saturating_sub(1), side - 3, 3 * side - 2, -4097]);
     let width = random.between(2, 5) as i32;
-    sized(zoom, (west, random.pick(&[0, 5])), width, 1)
+    let from = (west, random.pick(&[0, 5]));
+    sized(random.pick(&EDITIONS), zoom, from, width, 1)
 }
 
 /// As wide as the level, one wider or one narrower, often with as many rows as are taken.
@@ -139,39 +143,51 @@ fn as_wide_as_the_level(random: &mut Random) -> Rectangle {
     let height = random.pick(&[1, 1, most_rows, most_rows + 1]);
     let (first, last) = (i32::MIN, i32::MAX - side);
     let west = random.pick(&[0, -1, 7, -side, first, first + 1, last, last + 1, -100_000]);
-    sized(zoom, (west, 0), width, height)
+    sized(random.pick(&EDITIONS), zoom, (west, 0), width, height)
 }
 
 pub fn large(random: &mut Random) -> Rectangle {
     let (zoom, width, height) = random.pick(&LARGE_SHAPES);
     let west = random.pick(&[0, -3, 250, 1_000_000, i32::MIN]);
-    sized(zoom, (west, 0), width, height)
+    sized(random.pick(&EDITIONS), zoom, (west, 0), width, height)
 }
 
 fn far(random: &mut Random) -> Rectangle {
-    let (west, east) = random.pick(&FAR_COLUMNS);
+    let columns = random.pick(&FAR_COLUMNS);
     let zoom = some_level(random);
+    let rows = (5, random.pick(&[5, 5, 6]));
+    between(random.pick(&EDITIONS), zoom, columns, rows)
+}
+
+/// The rows are counted from the other side than the edition does: one below the other they are
+/// the wrong way round.
+fn misread(random: &mut Random, pool: &Pool) -> Rectangle {
+    let address = pool.any(random);
+    let from = (address.column, address.row.saturating_sub(1));
+    let rectangle = sized(address.edition, address.zoom, from, 1, 2);
     Rectangle {
-        zoom,
-        west,
-        east,
-        top: 5,
-        bottom: random.pick(&[5, 5, 6]),
+        top: rectangle.bottom,
+        bottom: rectangle.top,
+        ..rectangle
     }
 }
 
-/// The zoom or one of the rows is refused; now and then the rectangle is empty as well.
+/// The edition, the zoom or a row is refused; now and then the rectangle is empty as well.
 fn out_of_range(random: &mut Random, pool: &Pool) -> Rectangle {
     let mut rectangle = near(random, pool);
     let stray = random.pick(&[-1, i32::MIN, i32::MAX, 16_384, 1 << rectangle.zoom.min(14)]);
-    match random.below(4) {
+    match random.below(5) {
         0 => rectangle.zoom = random.pick(&[0, 3, 15, 32, 255]),
         1 => rectangle.top = stray,
         2 => rectangle.bottom = stray,
+        3 => rectangle.edition = no_edition(random),
         _ => {
             rectangle.top = stray;
             rectangle.bottom = stray;
         }
+    }
+    if random.one_in(4) {
+        rectangle.edition = no_edition(random);
     }
     if random.one_in(3) {
         std::mem::swap(&mut rectangle.west, &mut rectangle.east);
@@ -183,7 +199,8 @@ fn out_of_range(random: &mut Random, pool: &Pool) -> Rectangle {
 fn empty(random: &mut Random, pool: &Pool) -> Rectangle {
     let mut rectangle = if random.one_in(4) {
         let address = anywhere(random);
-        sized(address.zoom, (address.column, address.row), 1, 1)
+        let from = (address.column, address.row);
+        sized(address.edition, address.zoom, from, 1, 1)
     } else {
         near(random, pool)
     };
@@ -191,7 +208,8 @@ fn empty(random: &mut Random, pool: &Pool) -> Rectangle {
     if random.one_in(2) {
         rectangle.east = rectangle.west.saturating_sub(steps);
     } else {
-        rectangle.top = rectangle.bottom.saturating_add(1);
+        let below = if rectangle.edition == 1 { -1 } else { 1 };
+        rectangle.top = rectangle.bottom.saturating_add(below);
     }
     rectangle
 }

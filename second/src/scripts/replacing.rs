@@ -73,9 +73,10 @@ pub fn episode(writer: &mut Writer) {
         damage_and_mend(writer, &entries, tiles);
     }
     writer.tell("sum");
-    writer.tell("ins 7 7 0 0");
-    writer.tell("del 6 7 0 0");
-    writer.tell("ins 6 7 0 0");
+    // The first of the tiles, in both editions.
+    writer.tell("ins 7 2 7 0 0");
+    writer.tell("del 6 1 7 0 127");
+    writer.tell("ins 6 2 7 0 0");
     writer.tell("abort 6");
     writer.tell("sum");
 }

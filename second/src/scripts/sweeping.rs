@@ -4,10 +4,11 @@
 use crate::journal::Record;
 use crate::rectangle::Rectangle;
 use crate::rule::{Rule, RULES};
-use crate::scripts::addresses::{nth_tile, Pool};
+use crate::scripts::addresses::{nth_tile, Pool, EDITIONS};
 use crate::scripts::calls;
-use crate::scripts::rectangles::{at_an_edge, large, line, middling, sized};
+use crate::scripts::rectangles::{at_an_edge, large, middling, sized};
 use crate::scripts::replays;
+use crate::scripts::spelling::{address_of, operation_line, rectangle_line};
 use crate::scripts::writer::Writer;
 use crate::session::{MOST_JOURNAL, MOST_OPERATIONS, MOST_TILES};
 use crate::tile::Tile;
@@ -39,11 +40,6 @@ fn about(writer: &mut Writer, needed: usize) -> usize {
     one_more.saturating_sub(1).max(1)
 }
 
-fn operation_line(word: &str, job: u8, tile: Tile) -> String {
-    let (zoom, column, row) = (tile.zoom(), tile.column(), tile.row());
-    format!("{} {} {} {} {}", word, job, zoom, column, row)
-}
-
 /// A rectangle that takes the last tile places, entries or bytes, or one more than there are.
 pub fn at_the_last_place(writer: &mut Writer) {
     let rectangle = if writer.random.one_in(16) {
@@ -71,7 +67,8 @@ pub fn at_the_last_place(writer: &mut Writer) {
         writer.tell(format!("open {}", job));
     }
     for tile in deleted {
-        writer.tell(operation_line("del", 1, tile));
+        let place = address_of(&mut writer.random, tile);
+        writer.tell(operation_line("del", 1, place));
     }
     sweep_and_end(writer, rectangle);
 }
@@ -91,7 +88,7 @@ fn sweep_and_end(writer: &mut Writer, rectangle: Rectangle) {
         .random
         .pick(&["insall", "insall", "insall", "delall"]);
     for word in [first, "delall", "insall"] {
-        writer.tell(line(word, 1, rectangle));
+        writer.tell(rectangle_line(word, 1, rectangle));
         writer.tell("sum");
     }
     let end = writer.random.pick(&["commit 1", "abort 1"]);
@@ -118,19 +115,20 @@ pub fn held(writer: &mut Writer) {
         };
         let word = writer.random.pick(&["ins", "ins", "del", "mem"]);
         let job = writer.random.pick(&[1, 2, 3]);
-        writer.tell(operation_line(word, job, tile));
+        let place = address_of(&mut writer.random, tile);
+        writer.tell(operation_line(word, job, place));
         if writer.random.one_in(2) {
             let swept = writer.random.pick(&["insall", "delall"]);
             let job = writer.random.pick(&[1, 4, 4]);
-            writer.tell(line(swept, job, rectangle));
+            writer.tell(rectangle_line(swept, job, rectangle));
         }
     }
-    writer.tell(line("insall", 4, rectangle));
+    writer.tell(rectangle_line("insall", 4, rectangle));
     writer.tell("sum");
     for job in [2, 1, 3, 4] {
         let word = writer.random.pick(&["commit", "abort"]);
         writer.tell(format!("{} {}", word, job));
-        writer.tell(line("insall", 4, rectangle));
+        writer.tell(rectangle_line("insall", 4, rectangle));
     }
     writer.tell("sum");
 }
@@ -150,7 +148,7 @@ pub fn edges(writer: &mut Writer) {
 /// A rectangle of job 1, which is open. Where it is done a new start makes room for another.
 pub fn sweep_alone(writer: &mut Writer, rectangle: Rectangle) {
     let word = writer.random.pick(&["insall", "delall"]);
-    let answer = writer.tell(line(word, 1, rectangle));
+    let answer = writer.tell(rectangle_line(word, 1, rectangle));
     if answer.starts_with("reply 0 ") {
         writer.tell("sum");
         writer.tell("abort 1");
@@ -164,15 +162,16 @@ pub fn fill_largest_tables(writer: &mut Writer) {
     writer.lend(MOST_TILES, MOST_OPERATIONS, MOST_JOURNAL);
     writer.start(0);
     writer.tell("open 1");
+    let edition = writer.random.pick(&EDITIONS);
     let mut refusals = 0;
     for n in 0.. {
         let word = if n < 18 { "insall" } else { "delall" };
-        let square = sized(9, (16 * (n % 18) - 32, 0), 16, 16);
-        let answer = writer.tell(line(word, 1, square));
+        let square = sized(edition, 9, (16 * (n % 18) - 32, 0), 16, 16);
+        let answer = writer.tell(rectangle_line(word, 1, square));
         if answer.starts_with("reply 8 ") {
             writer.tell("commit 1");
             writer.tell("open 1");
-            writer.tell(line(word, 1, square));
+            writer.tell(rectangle_line(word, 1, square));
         } else if !answer.starts_with("reply 0 ") {
             refusals += 1;
         }
@@ -201,10 +200,10 @@ pub fn on_many_tiles(writer: &mut Writer) {
             writer.random.between(0, 60) as i32,
         );
         let (width, height) = (writer.random.between(1, 3), writer.random.between(1, 9));
-        let rectangle = sized(7, corner, width as i32, height as i32);
+        let rectangle = sized(2, 7, corner, width as i32, height as i32);
         let word = writer.random.pick(&["insall", "insall", "delall"]);
         let job = writer.random.pick(&[1, 1, 1, 2]);
-        writer.tell(line(word, job, rectangle));
+        writer.tell(rectangle_line(word, job, rectangle));
         writer.tell("sum");
     }
     writer.tell("abort 1");

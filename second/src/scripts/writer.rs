@@ -3,6 +3,7 @@
 use crate::console::Console;
 use crate::random::Random;
 use crate::rule::{Rule, RULES};
+use crate::scripts::addresses::LEVELS;
 use crate::scripts::bad_lines;
 use crate::tile::Tile;
 
@@ -14,16 +15,25 @@ pub struct Writer {
     pub console: Console,
     text: Vec<u8>,
     lines: usize,
+    levels_taken: usize,
 }
 
 impl Writer {
-    pub fn new(random: Random) -> Writer {
+    /// The script of the next seed begins its round of the levels one level higher.
+    pub fn new(seed: u64) -> Writer {
         Writer {
-            random,
+            random: Random::seeded(seed),
             console: Console::new(),
             text: Vec::new(),
             lines: 0,
+            levels_taken: (seed % LEVELS.len() as u64) as usize,
         }
+    }
+
+    /// Each level in its turn, so that none is left out.
+    pub fn next_level(&mut self) -> u8 {
+        self.levels_taken += 1;
+        LEVELS[self.levels_taken % LEVELS.len()]
     }
 
     pub fn lines(&self) -> usize {

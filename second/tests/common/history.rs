@@ -2,12 +2,12 @@
 //! report's definitions say of the history.
 
 use super::{tile, Bench, DONE};
+use second::address::Address;
 use second::journal::Record;
 use second::operation::{Procedure, PROCEDURES};
 use second::random::Random;
 use second::rectangle::{Rectangle, SWEEPS};
 use second::rule::Rule;
-use second::service::Address;
 use second::strictness::{most_tiles, run, step_on, strict, Step, Tiles};
 use second::tile::Tile;
 use std::collections::BTreeMap;
@@ -61,18 +61,21 @@ pub struct Trial {
     transactions: usize,
 }
 
-/// The same few tiles in several spellings, some of them on both sides of the seam.
+/// The same few tiles in several spellings of both editions, some on both sides of the seam.
 fn some_addresses(random: &mut Random) -> Vec<Address> {
     let columns = [-1, 15, 0, 16, i32::MIN, i32::MAX, 7];
     let count = random.between(2, 6);
-    let column = |random: &mut Random| random.pick(&columns);
-    (0..count)
-        .map(|_| Address {
+    let some_address = |_| {
+        let row = random.pick(&[5, 5, 5, 0]);
+        let (edition, row) = random.pick(&[(1, 15 - row), (2, row)]);
+        Address {
+            edition,
             zoom: 4,
-            column: column(random),
-            row: random.pick(&[5, 5, 5, 0]),
-        })
-        .collect()
+            column: random.pick(&columns),
+            row,
+        }
+    };
+    (0..count).map(some_address).collect()
 }
 
 impl Trial {
@@ -210,12 +213,16 @@ impl Trial {
             .random
             .pick(&[-1, 14, 15, 0, 6, i32::MIN, i32::MAX - 1]);
         let top = self.random.pick(&[5, 5, 4, 0]);
+        let bottom = top + self.random.pick(&[0, 0, 1]);
+        let counted = [(1, 15 - top, 15 - bottom), (2, top, bottom)];
+        let (edition, top, bottom) = self.random.pick(&counted);
         let place = Rectangle {
+            edition,
             zoom: 4,
             west,
             east: west + self.random.pick(&[0, 1, 1]),
             top,
-            bottom: top + self.random.pick(&[0, 0, 1]),
+            bottom,
         };
         let tiles = place.tiles().expect("a rectangle that is taken");
         if self.unfinished().count() + tiles.len() > most_done(self.rule).1 {

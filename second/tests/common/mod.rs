@@ -1,5 +1,5 @@
-//! A started session with its tables, and short names for the calls. Each of them compares the turns
-//! of its reply with those that are due, and gives the rest of it.
+//! A started session with its tables, and short names for the calls. Each of them compares the
+//! turns of its reply with those that are due, and gives the rest of it.
 
 #![allow(dead_code)]
 
@@ -10,11 +10,12 @@ pub mod tables;
 pub mod talk;
 pub mod turns;
 
+use second::address::Address;
 use second::operation::Procedure;
 use second::rectangle::{Rectangle, Sweep};
 use second::reply::{numbers, sweep_numbers, Reply, Span};
 use second::rule::Rule;
-use second::service::{self, Address};
+use second::service;
 use second::session::{Session, Tables};
 use second::state::State;
 use second::tile::Tile;
@@ -22,11 +23,13 @@ use std::collections::BTreeSet;
 use turns::{span_of, turns_of};
 
 pub const A: Address = Address {
+    edition: 2,
     zoom: 4,
     column: -1,
     row: 5,
 };
 pub const B: Address = Address {
+    edition: 2,
     zoom: 4,
     column: 16,
     row: 0,

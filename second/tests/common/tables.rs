@@ -1,17 +1,21 @@
 //! Random tables that are often sound and often almost sound, and random calls on them.
 
 use super::Bench;
+use second::address::Address;
 use second::operation::PROCEDURES;
 use second::random::Random;
 use second::rule::{Rule, RULES};
-use second::service::Address;
 use second::session::{Session, Tables};
 
+/// Mostly one of the tiles that the tables have, by its row from the north or from the south.
 pub fn some_address(random: &mut Random) -> Address {
+    let edition = random.pick(&[1, 1, 1, 2, 2, 2, 2, 0, 3, 255]);
+    let tile_row = if edition == 1 { 10 } else { 5 };
     Address {
+        edition,
         zoom: random.pick(&[4, 4, 4, 4, 4, 3, 14]),
         column: random.pick(&[-1, 15, 0, 16, 7]),
-        row: random.pick(&[5, 5, 5, 0, 16]),
+        row: random.pick(&[tile_row, tile_row, tile_row, 0, 16]),
     }
 }
 
