@@ -12,6 +12,7 @@ pub enum Refusal {
     NoOperationRoom,
     NoJournalRoom,
     Misshapen,
+    NoEdition,
 }
 
 /// What a call that is done tells: an operation's answer and its turns, or the turns of a
@@ -56,5 +57,6 @@ fn refusal_numbers(refusal: Refusal) -> [i64; 2] {
         Refusal::NoOperationRoom => [8, 0],
         Refusal::NoJournalRoom => [9, 0],
         Refusal::Misshapen => [13, 0],
+        Refusal::NoEdition => [14, 0],
     }
 }

@@ -144,13 +144,13 @@ fn checks_agree_on_random_histories() {
     let mut random = Random::seeded(12);
     for rule in Rule::ALL {
         let told = replies_of_histories(&mut random, rule);
-        let never: Vec<usize> = (0..14).filter(|&n| told[n] == 0).collect();
+        let never: Vec<usize> = (0..NUMBERS).filter(|&n| told[n] == 0).collect();
         assert_eq!(never, [1, 10, 11, 12], "{told:?}");
     }
 }
 
-fn replies_of_histories(random: &mut Random, rule: Rule) -> [usize; 14] {
-    let mut told = [0; 14];
+fn replies_of_histories(random: &mut Random, rule: Rule) -> [usize; NUMBERS] {
+    let mut told = [0; NUMBERS];
     for _ in 0..100 {
         let keys = random.distinct_keys(Vec::new(), 8);
         let mut case = Case {

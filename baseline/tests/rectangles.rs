@@ -6,7 +6,7 @@ use baseline::entry::{job, key};
 use baseline::rectangle::{Change, Rectangle, MOST_LISTED};
 use baseline::reply::Refusal;
 use baseline::rule::Rule;
-use baseline::tile::Address;
+use baseline::tile::{Address, FROM_NORTH, FROM_SOUTH};
 use baseline::workload::packs::IDLE_JOB;
 use baseline::workload::rectangles::{level_of, roomy_pack};
 use baseline::workload::world::Call;
@@ -20,6 +20,7 @@ const SEAM: Rectangle = rectangle(4, -1, 0, 0, 0);
 
 const fn rectangle(zoom: u8, west: i32, east: i32, top: i32, bottom: i32) -> Rectangle {
     Rectangle {
+        edition: FROM_NORTH,
         zoom,
         west,
         east,
@@ -59,12 +60,17 @@ fn numbers_in_order() {
         case.world.tiles[0] = 7;
         let told =
             |case: &mut Case, job, rectangle| numbers_of(put(case, job, Change::Insert, rectangle));
-        let nowhere = rectangle(3, 0, -1, 1, 0);
+        let of_edition = |edition, of| Rectangle { edition, ..of };
+        let nowhere = of_edition(3, rectangle(3, 0, -1, 1, 0));
         assert_eq!(told(&mut case, 64, nowhere), [1, 0, 0]);
         case.world.tiles[0] = 0;
         assert_eq!(told(&mut case, 64, nowhere), [2, 0, 0]);
         assert_eq!(told(&mut case, 3, nowhere), [3, 0, 0]);
-        assert_eq!(told(&mut case, 2, nowhere), [5, 0, 0]);
+        assert_eq!(told(&mut case, 2, nowhere), [14, 0, 0]);
+        assert_eq!(
+            told(&mut case, 2, of_edition(FROM_SOUTH, nowhere)),
+            [5, 0, 0]
+        );
         assert_eq!(told(&mut case, 2, rectangle(4, 0, -1, 1, 0)), [13, 0, 0]);
         assert_eq!(told(&mut case, 2, SEAM), [6, 0, 1]);
         let free = rectangle(4, -1, 0, 1, 1);

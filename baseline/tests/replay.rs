@@ -219,7 +219,7 @@ fn holds_after(world: &World, start: &World) {
 fn full_journals() {
     let mut random = Random::seeded(22);
     for rule in Rule::ALL {
-        for (load, open) in [(Load::Few, 50..500), (Load::Many, 800..1_025)] {
+        for (load, open) in [(Load::Few, 1..500), (Load::Many, 800..1_025)] {
             let keys = random.distinct_keys(Vec::new(), 5_000);
             let start = World::with_tiles(keys[..3_000].to_vec());
             let written = write_full(&mut random, rule, load, start, &keys);

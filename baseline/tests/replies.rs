@@ -6,14 +6,15 @@ mod common;
 use baseline::journal::Procedure;
 use baseline::reply::Refusal;
 use baseline::rule::Rule;
-use baseline::tile::Address;
+use baseline::tile::{Address, FROM_SOUTH};
 use baseline::workload::world::Call;
 use common::*;
 
 const NOWHERE: Address = Address {
+    edition: 3,
     zoom: 3,
     column: 0,
-    row: 0,
+    row: -1,
 };
 
 #[test]
@@ -31,7 +32,12 @@ fn numbers_of_an_operation_in_order() {
     case.world.tiles[0] = 0;
     assert_eq!(told(&mut case, 64, NOWHERE), [2, 0, 0]);
     assert_eq!(told(&mut case, 3, NOWHERE), [3, 0, 0]);
-    assert_eq!(told(&mut case, 2, NOWHERE), [5, 0, 0]);
+    assert_eq!(told(&mut case, 2, NOWHERE), [14, 0, 0]);
+    let out_of_range = Address {
+        edition: FROM_SOUTH,
+        ..NOWHERE
+    };
+    assert_eq!(told(&mut case, 2, out_of_range), [5, 0, 0]);
     assert_eq!(told(&mut case, 2, A), [6, 0, 1]);
     assert_eq!(told(&mut case, 2, B), [7, 0, 0]);
     case.world.tiles.push(0);

@@ -85,11 +85,7 @@ fn keys_of_addresses() {
     assert_eq!(B.key(), Some(4_026_531_839));
     assert_eq!(C.key(), Some(1_073_741_824));
     for (zoom, row) in [(4, 16), (4, -1), (3, 0), (15, 0), (255, 0)] {
-        let address = Address {
-            zoom,
-            column: 0,
-            row,
-        };
+        let address = Address { zoom, row, ..C };
         assert_eq!(address.key(), None, "{address:?}");
     }
     let far = |column| Address { column, ..A }.key();

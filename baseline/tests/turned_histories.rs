@@ -1,5 +1,7 @@
 //! Turns in random histories, which go round the world both ways as far as a column can.
 
+mod common;
+
 use baseline::reply::numbers;
 use baseline::rule::Rule;
 use baseline::soundness::Check;
@@ -7,6 +9,7 @@ use baseline::tile::Address;
 use baseline::workload::histories::{any_call, small_world};
 use baseline::workload::random::Random;
 use baseline::workload::world::Call;
+use common::C;
 use std::collections::BTreeSet;
 
 /// A call, and the turns that it told.
@@ -34,8 +37,7 @@ fn done_in_histories(rule: Rule) -> Vec<Told> {
 
 /// How far a column is from that of its key, in turns.
 fn turns_by_key(zoom: u8, column: i32) -> i64 {
-    let row = 0;
-    let key = Address { zoom, column, row }.key().unwrap();
+    let key = Address { zoom, column, ..C }.key().unwrap();
     let away = i64::from(column) - i64::from(Address::of_key(key).column);
     away / (1 << zoom)
 }

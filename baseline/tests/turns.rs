@@ -38,13 +38,14 @@ fn columns_of(zoom: u8) -> [i32; 8] {
 }
 
 /// The row from this address to an east column.
-fn row_to(east: i32, Address { zoom, column, row }: Address) -> Rectangle {
+fn row_to(east: i32, of: Address) -> Rectangle {
     Rectangle {
-        zoom,
-        west: column,
+        edition: of.edition,
+        zoom: of.zoom,
+        west: of.column,
         east,
-        top: row,
-        bottom: row,
+        top: of.row,
+        bottom: of.row,
     }
 }
 
@@ -56,11 +57,7 @@ fn told(case: &mut Case, call: Call) -> [i64; 5] {
 fn a_column_is_its_turns_and_the_column_of_its_key() {
     for zoom in LEVELS {
         for column in columns_of(zoom) {
-            let address = Address {
-                zoom,
-                column,
-                row: 0,
-            };
+            let address = Address { zoom, column, ..C };
             let (key, turns) = address.key_and_turns().unwrap();
             let found = (turns.into(), Address::of_key(key).column.into());
             assert_eq!(found, going_round(zoom, column), "{address:?}");
@@ -138,10 +135,11 @@ fn a_rectangle_on_every_level() {
 const HELD: Address = Address { column: -17, ..A };
 const FREE: Address = Address { row: 0, ..HELD };
 
-const REFUSED: [[i64; 5]; 8] = [
+const REFUSED: [[i64; 5]; 9] = [
     [1, 0, 0, 0, 0],
     [2, 0, 0, 0, 0],
     [3, 0, 0, 0, 0],
+    [14, 0, 0, 0, 0],
     [5, 0, 0, 0, 0],
     [6, 0, 1, 0, 0],
     [7, 0, 0, 0, 0],
@@ -154,15 +152,16 @@ type Step = (fn(&mut World), u8, Address);
 
 /// What the calls are told where each step mends what was refused: the refusals above, and in the
 /// end what is told when it is done.
-fn told_in_order(asked: fn(u8, Address) -> Call) -> [[i64; 5]; 9] {
+fn told_in_order(asked: fn(u8, Address) -> Call) -> [[i64; 5]; 10] {
     let mut case = Case::with_places(1, &[A]);
     assert_eq!(case.delete(1, A), OK);
     case.world.operations.truncate(1);
     case.world.journal.truncate(case.world.session.journal + 8);
-    let steps: [Step; 9] = [
+    let steps: [Step; 10] = [
         (|world| world.tiles[0] = 7, 2, FREE),
         (|world| world.tiles[0] = 0, 64, FREE),
         (|_| {}, 3, FREE),
+        (|_| {}, 2, Address { edition: 0, ..FREE }),
         (|_| {}, 2, Address { zoom: 3, ..FREE }),
         (|_| {}, 2, HELD),
         (|_| {}, 2, FREE),
@@ -179,16 +178,16 @@ fn told_in_order(asked: fn(u8, Address) -> Call) -> [[i64; 5]; 9] {
 #[test]
 fn a_refused_operation_tells_none() {
     let told = told_in_order(|job, address| Call::Operation(job, Procedure::Insert, address));
-    assert_eq!(told[..8], REFUSED);
-    assert_eq!(told[8], [0, 1, 0, -2, 0]);
+    assert_eq!(told[..9], REFUSED);
+    assert_eq!(told[9], [0, 1, 0, -2, 0]);
 }
 
 #[test]
 fn a_refused_rectangle_tells_none() {
     let insert = |job, address| Call::Rectangle(job, Change::Insert, row_to(-16, address));
     let in_order = told_in_order(insert);
-    assert_eq!(in_order[..8], REFUSED);
-    assert_eq!(in_order[8], [0, 0, 0, -2, -1]);
+    assert_eq!(in_order[..9], REFUSED);
+    assert_eq!(in_order[9], [0, 0, 0, -2, -1]);
     for east in [-18, -1, LAST] {
         let misshapen = Call::Rectangle(1, Change::Insert, row_to(east, FREE));
         assert_eq!(told(&mut Case::ample(&[]), misshapen), [13, 0, 0, 0, 0]);

@@ -1,5 +1,6 @@
 //! Lists of calls.
 
+use super::editions::{address_of, any_edition};
 use super::random::Random;
 use super::rectangles::any_rectangle;
 use super::turns::{off_the_level, turned};
@@ -26,8 +27,8 @@ pub fn small_world(random: &mut Random, keys: &[u32]) -> World {
     world
 }
 
-/// Any call, on one of these tiles, often some turns away, or now and then on an address that has
-/// no key.
+/// Any call, on one of these tiles, from either end and often some turns away, or now and then on
+/// an address that has no key.
 pub fn any_call(random: &mut Random, keys: &[u32], jobs: usize) -> Call {
     let job = match random.below(24) {
         0 => random.below(256),
@@ -43,12 +44,14 @@ pub fn any_call(random: &mut Random, keys: &[u32], jobs: usize) -> Call {
 }
 
 fn any_address(random: &mut Random, keys: &[u32]) -> Address {
-    let mut address = Address::of_key(random.pick(keys));
+    let key = random.pick(keys);
+    let mut address = address_of(random, key);
     address.column = turned(random, address.zoom, address.column);
     match random.below(32) {
         0 => address.zoom = random.below(17) as u8,
         1 => address.row = [-1, 1 << address.zoom, i32::MIN, i32::MAX][random.below(4)],
         2 => address.column = off_the_level(random, address.zoom),
+        3 => address.edition = any_edition(random),
         _ => {}
     }
     address
@@ -130,7 +133,7 @@ pub fn stretch_until(
     let mut found_full = 0;
     while found_full < 2 && operations.len() < most {
         let (job, key) = job_and_tile(random, keys, world);
-        let call = Call::Operation(job, random.pick(&ASKED), Address::of_key(key));
+        let call = Call::Operation(job, random.pick(&ASKED), address_of(random, key));
         if world.call(Check::Filter, call) == Err(Refusal::NoOperationRoom) {
             found_full += 1;
         }

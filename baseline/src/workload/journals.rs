@@ -1,5 +1,6 @@
 //! Journals to replay: one that the calls wrote until it was full, and pieces and wrong versions.
 
+use super::editions::address_of;
 use super::histories::job_and_tile;
 use super::random::Random;
 use super::world::{Call, World};
@@ -7,7 +8,6 @@ use crate::journal::{Procedure, RULE_RECORD};
 use crate::reply::Refusal;
 use crate::rule::Rule;
 use crate::soundness::Check;
-use crate::tile::Address;
 
 /// How many entries are open while a journal is written.
 #[derive(Clone, Copy, Debug, PartialEq, Eq)]
@@ -61,7 +61,7 @@ pub fn write_full(
         } else if random.one_in(load.calls_of_a_job()) {
             random.pick(&[Call::Commit(job), Call::Commit(job), Call::Abort(job)])
         } else {
-            Call::Operation(job, random.pick(&ASKED), Address::of_key(key))
+            Call::Operation(job, random.pick(&ASKED), address_of(random, key))
         };
         if world.call(Check::Filter, call) == Err(Refusal::NoJournalRoom) {
             break;

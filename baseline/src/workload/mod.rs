@@ -1,6 +1,7 @@
 //! What the tests and the benchmark run the service on, all of it made from fixed seeds.
 
 pub mod damage;
+pub mod editions;
 pub mod histories;
 pub mod journals;
 pub mod packs;

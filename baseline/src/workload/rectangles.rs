@@ -1,5 +1,6 @@
 //! Rectangles: any near some tiles, and those of the most tiles on tables with room for just them.
 
+use super::editions::{any_edition, rows_from_south};
 use super::packs::Sort;
 use super::random::Random;
 use super::turns::turned;
@@ -8,29 +9,51 @@ use crate::entry::key;
 use crate::journal::{JOB_RECORD, OPERATION_RECORD};
 use crate::rectangle::{Change, Rectangle, MOST_LISTED};
 use crate::rule::Rule;
-use crate::tile::Address;
+use crate::tile::{Address, FROM_NORTH};
 use std::collections::HashSet;
 
-/// A small one near one of these tiles or, beside it, near the seam, and often some turns away; or
-/// now and then one at a bound.
+/// One near one of these tiles or at a bound, from either end, or now and then of any edition.
 pub fn any_rectangle(random: &mut Random, keys: &[u32]) -> Rectangle {
-    let Address { zoom, column, row } = Address::of_key(random.pick(keys));
+    let near = near_a_tile(random, keys);
+    let from_north = match random.below(4) {
+        0 => at_a_bound(random, near),
+        _ => near,
+    };
+    let rectangle = from_either_end(random, from_north);
+    let edition = match random.below(16) {
+        0 => any_edition(random),
+        _ => rectangle.edition,
+    };
+    Rectangle {
+        edition,
+        ..rectangle
+    }
+}
+
+fn from_either_end(random: &mut Random, from_north: Rectangle) -> Rectangle {
+    if random.one_in(2) {
+        rows_from_south(from_north)
+    } else {
+        from_north
+    }
+}
+
+/// A small one near one of these tiles or, beside it, near the seam, and often some turns away.
+fn near_a_tile(random: &mut Random, keys: &[u32]) -> Rectangle {
+    let tile = Address::of_key(random.pick(keys));
+    let (zoom, column, row) = (tile.zoom, tile.column, tile.row);
     // the last columns of two turns: from one of them on, a rectangle goes into the next turn
     let column = random.pick(&[column, column, column, -1, (1 << zoom) - 1]);
     let column = turned(random, zoom, column);
     let mut below = |bound| random.below(bound) as i32;
     let (west, top) = (column.saturating_sub(below(2)), row - below(2));
-    let rectangle = Rectangle {
+    Rectangle {
+        edition: FROM_NORTH,
         zoom,
         west,
         east: west.saturating_add(below(3)),
         top,
         bottom: top + below(3),
-    };
-    if random.one_in(4) {
-        at_a_bound(random, rectangle)
-    } else {
-        rectangle
     }
 }
 
@@ -77,6 +100,7 @@ fn with_rows(of: Rectangle, top: i32, bottom: i32) -> Rectangle {
 pub fn level_of(zoom: u8) -> Rectangle {
     let last = (1 << zoom) - 1;
     Rectangle {
+        edition: FROM_NORTH,
         zoom,
         west: 0,
         east: last,
@@ -124,7 +148,8 @@ fn square_on_seam(random: &mut Random, zoom: u8) -> Rectangle {
         -(random.below(15) as i32) - 1,
         random.below(side - 15) as i32,
     );
-    with_rows(with_columns(level_of(zoom), west, west + 15), top, top + 15)
+    let square = with_rows(with_columns(level_of(zoom), west, west + 15), top, top + 15);
+    from_either_end(random, square)
 }
 
 /// Puts the rectangle's tiles in the place of others that no entry has.

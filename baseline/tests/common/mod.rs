@@ -6,24 +6,30 @@ use baseline::reply::{numbers, Done, Refusal, Reply};
 use baseline::rule::Rule;
 use baseline::session::JOBS;
 use baseline::soundness::Check;
-use baseline::tile::Address;
+use baseline::tile::{Address, FROM_NORTH};
 use baseline::workload::world::{Call, World};
 
 pub const A: Address = Address {
+    edition: FROM_NORTH,
     zoom: 4,
     column: -1,
     row: 5,
 };
 pub const B: Address = Address {
+    edition: FROM_NORTH,
     zoom: 14,
     column: -1,
     row: 16_383,
 };
 pub const C: Address = Address {
+    edition: FROM_NORTH,
     zoom: 4,
     column: 16,
     row: 0,
 };
+
+/// So many numbers a reply may have, with those that only a replay gives.
+pub const NUMBERS: usize = 15;
 
 /// A reply without its turns, which turns.rs looks at.
 pub type Answer = Result<bool, Refusal>;

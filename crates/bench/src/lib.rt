@@ -113,13 +113,19 @@ pub extern "C" fn bench_operation(
     journal: &mut [u8],
     job: u8,
     procedure: u8,
+    edition: u8,
     zoom: u8,
     column: i32,
     row: i32,
     reply: &mut [i32; 5],
 ) {
     let session = session_of(marks, parts);
-    let address = Address { zoom, column, row };
+    let address = Address {
+        edition,
+        zoom,
+        column,
+        row,
+    };
     let outcome = sanbirogu::operation(
         session,
         tiles,
@@ -149,6 +155,7 @@ pub extern "C" fn bench_rectangle(
     journal: &mut [u8],
     job: u8,
     change: u8,
+    edition: u8,
     zoom: u8,
     west: i32,
     east: i32,
@@ -158,6 +165,7 @@ pub extern "C" fn bench_rectangle(
 ) {
     let session = session_of(marks, parts);
     let sheet = Rectangle {
+        edition,
         zoom,
         west,
         east,

@@ -34,8 +34,8 @@ impl Compared {
         match (self, rule) {
             (Compared::Start, Rule::Alone) => &[0, 1],
             (Compared::Start, Rule::Together) => &[0, 1, 9],
-            (Compared::Call, _) => &[0, 1, 2, 3, 4, 5, 6, 7, 8, 9],
-            (Compared::Rectangle, _) => &[0, 1, 2, 3, 5, 6, 7, 8, 9, 13],
+            (Compared::Call, _) => &[0, 1, 2, 3, 4, 5, 6, 7, 8, 9, 14],
+            (Compared::Rectangle, _) => &[0, 1, 2, 3, 5, 6, 7, 8, 9, 13, 14],
             (Compared::Replay, _) => &[0, 1, 10, 11, 12],
         }
     }

@@ -68,6 +68,7 @@ extern "C" {
         journal_bytes: usize,
         job: u8,
         procedure: u8,
+        edition: u8,
         zoom: u8,
         column: i32,
         row: i32,
@@ -84,6 +85,7 @@ extern "C" {
         journal_bytes: usize,
         job: u8,
         change: u8,
+        edition: u8,
         zoom: u8,
         west: i32,
         east: i32,
@@ -192,14 +194,20 @@ pub fn call(world: &mut World, call: Call) -> Told {
         }
         Call::Open(job) => on_session!(bench_open(m, p, world, job, r)),
         Call::Operation(job, procedure, address) => {
-            let Address { zoom, column, row } = address;
+            let Address {
+                edition,
+                zoom,
+                column,
+                row,
+            } = address;
             let asked = procedure as u8;
             on_session!(bench_operation(
-                m, p, world, job, asked, zoom, column, row, r
+                m, p, world, job, asked, edition, zoom, column, row, r
             ))
         }
         Call::Rectangle(job, change, rectangle) => {
             let Rectangle {
+                edition,
                 zoom,
                 west,
                 east,
@@ -208,7 +216,7 @@ pub fn call(world: &mut World, call: Call) -> Told {
             } = rectangle;
             let asked = change as u8;
             on_session!(bench_rectangle(
-                m, p, world, job, asked, zoom, west, east, top, bottom, r
+                m, p, world, job, asked, edition, zoom, west, east, top, bottom, r
             ))
         }
         Call::Commit(job) => on_session!(bench_commit(m, p, world, job, r)),
