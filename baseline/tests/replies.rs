@@ -1,4 +1,4 @@
-//! The lowest number that applies is given, rooms are exact to the byte, and records are as the
+//! The first number of its list that applies is given, rooms are exact to the byte, and records are as the
 //! paper writes them.
 
 mod common;
