@@ -25,22 +25,22 @@ asked =
     opening 1 ↝ bare 0
     ∷ opening 2 ↝ bare 0
     ∷ opening 3 ↝ bare 0
-    ∷ operating 1 Ins a ↝ okA
-    ∷ operating 2 Mem b ↝ done false (pos 1)
-    ∷ operating 3 Ins b ↝ okB
+    ∷ operating 1 0 Ins a ↝ okA
+    ∷ operating 2 0 Mem b ↝ done false (pos 1)
+    ∷ operating 3 0 Ins b ↝ okB
     ∷ []
 
 abbrev running : Rule → World
-running r = worldAfter (from r [] 2 3 60) asked
+running r = worldAfter (from r [] 2 3 66) asked
 
 -- the bytes that they wrote
 abbrev written : Rule → List ℕ
 written r =
     ruleBytes r
     ++ (1 ∷ 0 ∷ 1 ∷ 1 ∷ 1 ∷ 0 ∷ 1 ∷ 2 ∷ 1 ∷ 0 ∷ 1 ∷ 3 ∷ [])
-    ++ (2 ∷ 0 ∷ 7 ∷ 1 ∷ 1 ∷ 1 ∷ 64 ∷ 3 ∷ 192 ∷ 5 ∷ [])
-    ++ (2 ∷ 0 ∷ 7 ∷ 2 ∷ 3 ∷ 0 ∷ 64 ∷ 0 ∷ 0 ∷ 0 ∷ [])
-    ++ (2 ∷ 0 ∷ 7 ∷ 3 ∷ 1 ∷ 1 ∷ 64 ∷ 0 ∷ 0 ∷ 0 ∷ [])
+    ++ (6 ∷ 0 ∷ 9 ∷ 1 ∷ 1 ∷ 1 ∷ 64 ∷ 3 ∷ 192 ∷ 5 ∷ 0 ∷ 0 ∷ [])
+    ++ (6 ∷ 0 ∷ 9 ∷ 2 ∷ 3 ∷ 0 ∷ 64 ∷ 0 ∷ 0 ∷ 0 ∷ 0 ∷ 0 ∷ [])
+    ++ (6 ∷ 0 ∷ 9 ∷ 3 ∷ 1 ∷ 1 ∷ 64 ∷ 0 ∷ 0 ∷ 0 ∷ 0 ∷ 0 ∷ [])
 
 -- job 1 is kept, 2 and 3 are cancelled, in this order and in the other
 abbrev oneWay : List End
@@ -55,10 +55,10 @@ left r used ends zeros =
     world (record { rule = r; marks = replicate 64 false; tiles = 1; operations = 0; journal = used }) (A ∷ 0 ∷ []) (0 ∷ 0 ∷ 0 ∷ []) (written r ++ ends ++ zeros)
 
 pub ends-cases : after (running Alone) oneWay ∷ after (running Alone) otherWay ∷ after (running Together) oneWay ∷ after (running Together) otherWay ∷ []
-    ≡ left Alone 54 (3 ∷ 0 ∷ 1 ∷ 1 ∷ 4 ∷ 0 ∷ 1 ∷ 2 ∷ 4 ∷ 0 ∷ 1 ∷ 3 ∷ []) (replicate 6 0)
-    ∷ left Alone 54 (4 ∷ 0 ∷ 1 ∷ 3 ∷ 3 ∷ 0 ∷ 1 ∷ 1 ∷ 4 ∷ 0 ∷ 1 ∷ 2 ∷ []) (replicate 6 0)
-    ∷ left Together 58 (3 ∷ 0 ∷ 1 ∷ 1 ∷ 4 ∷ 0 ∷ 1 ∷ 2 ∷ 4 ∷ 0 ∷ 1 ∷ 3 ∷ []) (replicate 2 0)
-    ∷ left Together 58 (4 ∷ 0 ∷ 1 ∷ 3 ∷ 3 ∷ 0 ∷ 1 ∷ 1 ∷ 4 ∷ 0 ∷ 1 ∷ 2 ∷ []) (replicate 2 0)
+    ≡ left Alone 60 (3 ∷ 0 ∷ 1 ∷ 1 ∷ 4 ∷ 0 ∷ 1 ∷ 2 ∷ 4 ∷ 0 ∷ 1 ∷ 3 ∷ []) (replicate 6 0)
+    ∷ left Alone 60 (4 ∷ 0 ∷ 1 ∷ 3 ∷ 3 ∷ 0 ∷ 1 ∷ 1 ∷ 4 ∷ 0 ∷ 1 ∷ 2 ∷ []) (replicate 6 0)
+    ∷ left Together 64 (3 ∷ 0 ∷ 1 ∷ 1 ∷ 4 ∷ 0 ∷ 1 ∷ 2 ∷ 4 ∷ 0 ∷ 1 ∷ 3 ∷ []) (replicate 2 0)
+    ∷ left Together 64 (4 ∷ 0 ∷ 1 ∷ 3 ∷ 3 ∷ 0 ∷ 1 ∷ 1 ∷ 4 ∷ 0 ∷ 1 ∷ 2 ∷ []) (replicate 2 0)
     ∷ []
 unfolding keyOf isKey tabledB soundB startCall concluded encode entryAt
 ends-cases = refl

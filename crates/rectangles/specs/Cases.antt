@@ -125,52 +125,52 @@ opens = plain (opening 1) ∷ plain (opening 2) ∷ []
 
 -- 0, of a rectangle with these turns
 abbrev covering : ℤ → ℤ → Told
-covering first last = record { number = 0; answer = 0; holder = 0; turns = first; last = last }
+covering first last = record { number = 0; answer = 0; holder = 0; sheet = 0; turns = first; last = last }
 
 -- a rectangle from turn -1 to turn 0, as the seam is
 abbrev whole : Told
 whole = covering (negsuc 0) (pos 0)
 
 abbrev insertA : ℕ → Move
-insertA job = plain (operating job Ins (address 4 (negsuc 0) (pos 5)))
+insertA job = plain (operating job 0 Ins (address 4 (negsuc 0) (pos 5)))
 
 abbrev insertB : ℕ → Move
-insertB job = plain (operating job Ins (address 4 (pos 16) (pos 5)))
+insertB job = plain (operating job 0 Ins (address 4 (pos 16) (pos 5)))
 
 abbrev insertC : ℕ → Move
-insertC job = plain (operating job Ins (address 4 (pos 16) (pos 0)))
+insertC job = plain (operating job 0 Ins (address 4 (pos 16) (pos 0)))
 
 -- where each operation fails alone
 abbrev plays : List Play
 plays =
-    play Alone [] 8 8 99 (rectangle 1 Insert seam ∷ rectangle 1 Insert seam ∷ []) (whole ∷ heldBy1 ∷ []) (B ∷ A ∷ [])
-    ∷ play Alone [] 8 8 99 (rectangle 1 Insert seam ∷ plain (aborting 1) ∷ []) (whole ∷ bare 0 ∷ []) []
-    ∷ play Alone [] 8 8 99 (insertB 1 ∷ rectangle 2 Delete seam ∷ []) (okB ∷ heldBy1 ∷ []) (B ∷ [])
-    ∷ play Alone [] 8 8 99 (rectangle 3 Insert seam ∷ rectangle 64 Insert seam ∷ []) (bare 3 ∷ bare 2 ∷ []) []
-    ∷ play Alone [] 1 8 99 (rectangle 1 Insert seam ∷ rectangle 1 Delete seam ∷ []) (bare 7 ∷ whole ∷ []) []
-    ∷ play Alone [] 2 1 99 (rectangle 1 Insert seam ∷ []) (bare 8 ∷ []) []
-    ∷ play Alone [] 2 2 35 (rectangle 1 Insert seam ∷ []) (bare 9 ∷ []) []
-    ∷ play Alone [] 2 2 36 (rectangle 1 Insert seam ∷ []) (whole ∷ []) (B ∷ A ∷ [])
-    ∷ play Alone [] 1 1 35 (rectangle 1 Insert seam ∷ rectangle 1 Delete seam ∷ []) (bare 7 ∷ bare 8 ∷ []) []
-    ∷ play Alone (B ∷ A ∷ []) 2 8 99 (rectangle 1 Delete seam ∷ rectangle 1 Insert seam ∷ []) (whole ∷ heldBy1 ∷ []) []
-    ∷ play Alone [] 8 8 99 (insertA 1 ∷ insertB 2 ∷ rectangle 2 Delete seam ∷ []) (okA ∷ okB ∷ heldBy1 ∷ []) (B ∷ A ∷ [])
-    ∷ play Alone [] 8 8 99 (rectangle 1 Insert (rect 4 (pos 1) (pos 0) (pos 0) (pos 16)) ∷ rectangle 1 Insert (rect 4 (pos 1) (pos 0) (pos 0) (pos 0)) ∷ []) (bare 5 ∷ bare 13 ∷ []) []
-    ∷ play Alone [] 8 8 99 (rectangle 1 Insert (rect 4 (pos 70015) (pos 70016) (pos 0) (pos 0)) ∷ []) (covering (pos 4375) (pos 4376) ∷ []) (C ∷ 1073987584 ∷ [])
-    ∷ play Alone [] 8 8 99 (rectangle 1 Insert (rectOf 3 3 (pos 1) (pos 0) (pos 0) (pos 0)) ∷ rectangle 1 Insert (rectOf 1 4 (pos 0) (pos 0) (pos 9) (pos 10)) ∷ []) (bare 14 ∷ bare 13 ∷ []) []
-    ∷ play Alone [] 8 8 99 (rectangle 1 Insert (rectOf 1 4 (negsuc 0) (pos 0) (pos 10) (pos 10)) ∷ rectangle 2 Delete seam ∷ []) (whole ∷ heldBy1 ∷ []) (B ∷ A ∷ [])
-    ∷ play Alone [] 8 8 99 (rectangle 1 Delete (rect 4 (negsuc 16) (negsuc 15) (pos 0) (pos 0)) ∷ []) (covering (negsuc 1) (negsuc 0) ∷ []) []
+    play Alone [] 8 8 99 (rectangle 1 0 Insert seam ∷ rectangle 1 0 Insert seam ∷ []) (whole ∷ heldBy1 ∷ []) (B ∷ A ∷ [])
+    ∷ play Alone [] 8 8 99 (rectangle 1 0 Insert seam ∷ plain (aborting 1) ∷ []) (whole ∷ bare 0 ∷ []) []
+    ∷ play Alone [] 8 8 99 (insertB 1 ∷ rectangle 2 0 Delete seam ∷ []) (okB ∷ heldBy1 ∷ []) (B ∷ [])
+    ∷ play Alone [] 8 8 99 (rectangle 3 0 Insert seam ∷ rectangle 64 0 Insert seam ∷ []) (bare 3 ∷ bare 2 ∷ []) []
+    ∷ play Alone [] 1 8 99 (rectangle 1 0 Insert seam ∷ rectangle 1 0 Delete seam ∷ []) (bare 7 ∷ whole ∷ []) []
+    ∷ play Alone [] 2 1 99 (rectangle 1 0 Insert seam ∷ []) (bare 8 ∷ []) []
+    ∷ play Alone [] 2 2 39 (rectangle 1 0 Insert seam ∷ []) (bare 9 ∷ []) []
+    ∷ play Alone [] 2 2 40 (rectangle 1 0 Insert seam ∷ []) (whole ∷ []) (B ∷ A ∷ [])
+    ∷ play Alone [] 1 1 39 (rectangle 1 0 Insert seam ∷ rectangle 1 0 Delete seam ∷ []) (bare 7 ∷ bare 8 ∷ []) []
+    ∷ play Alone (B ∷ A ∷ []) 2 8 99 (rectangle 1 0 Delete seam ∷ rectangle 1 0 Insert seam ∷ []) (whole ∷ heldBy1 ∷ []) []
+    ∷ play Alone [] 8 8 99 (insertA 1 ∷ insertB 2 ∷ rectangle 2 0 Delete seam ∷ []) (okA ∷ okB ∷ heldBy1 ∷ []) (B ∷ A ∷ [])
+    ∷ play Alone [] 8 8 99 (rectangle 1 0 Insert (rect 4 (pos 1) (pos 0) (pos 0) (pos 16)) ∷ rectangle 1 0 Insert (rect 4 (pos 1) (pos 0) (pos 0) (pos 0)) ∷ []) (bare 5 ∷ bare 13 ∷ []) []
+    ∷ play Alone [] 8 8 99 (rectangle 1 0 Insert (rect 4 (pos 70015) (pos 70016) (pos 0) (pos 0)) ∷ []) (covering (pos 4375) (pos 4376) ∷ []) (C ∷ 1073987584 ∷ [])
+    ∷ play Alone [] 8 8 99 (rectangle 1 0 Insert (rectOf 3 3 (pos 1) (pos 0) (pos 0) (pos 0)) ∷ rectangle 1 0 Insert (rectOf 1 4 (pos 0) (pos 0) (pos 9) (pos 10)) ∷ []) (bare 14 ∷ bare 13 ∷ []) []
+    ∷ play Alone [] 8 8 99 (rectangle 1 0 Insert (rectOf 1 4 (negsuc 0) (pos 0) (pos 10) (pos 10)) ∷ rectangle 2 0 Delete seam ∷ []) (whole ∷ heldBy1 ∷ []) (B ∷ A ∷ [])
+    ∷ play Alone [] 8 8 99 (rectangle 1 0 Delete (rect 4 (negsuc 16) (negsuc 15) (pos 0) (pos 0)) ∷ []) (covering (negsuc 1) (negsuc 0) ∷ []) []
     ∷ []
 
 -- where a job fails as one: it may change its own tiles again, and needs no further place for those that it deleted; the abort brings them back;
 -- another job is held; the absent tiles that were deleted are counted once each, so that C finds no place, and after the commit it does
 abbrev ownPlays : List Play
 ownPlays =
-    play Together (B ∷ A ∷ []) 2 8 99 (rectangle 1 Delete seam ∷ rectangle 1 Insert seam ∷ []) (whole ∷ whole ∷ []) (B ∷ A ∷ [])
-    ∷ play Together (B ∷ A ∷ []) 2 8 99 (rectangle 1 Delete seam ∷ rectangle 1 Insert seam ∷ plain (aborting 1) ∷ []) (whole ∷ whole ∷ bare 0 ∷ []) (B ∷ A ∷ [])
-    ∷ play Together [] 8 8 99 (rectangle 1 Insert seam ∷ rectangle 1 Delete seam ∷ rectangle 2 Insert seam ∷ []) (whole ∷ whole ∷ heldBy1 ∷ []) []
-    ∷ play Together [] 8 8 99 (insertB 1 ∷ rectangle 2 Delete seam ∷ []) (okB ∷ heldBy1 ∷ []) (B ∷ [])
-    ∷ play Together (A ∷ []) 1 8 99 (rectangle 1 Delete seam ∷ rectangle 1 Insert seam ∷ []) (whole ∷ bare 7 ∷ []) []
-    ∷ play Together (B ∷ A ∷ []) 2 8 99 (rectangle 1 Delete seam ∷ insertC 2 ∷ plain (committing 1) ∷ insertC 2 ∷ []) (whole ∷ bare 7 ∷ bare 0 ∷ okB ∷ []) (C ∷ [])
+    play Together (B ∷ A ∷ []) 2 8 99 (rectangle 1 0 Delete seam ∷ rectangle 1 0 Insert seam ∷ []) (whole ∷ whole ∷ []) (B ∷ A ∷ [])
+    ∷ play Together (B ∷ A ∷ []) 2 8 99 (rectangle 1 0 Delete seam ∷ rectangle 1 0 Insert seam ∷ plain (aborting 1) ∷ []) (whole ∷ whole ∷ bare 0 ∷ []) (B ∷ A ∷ [])
+    ∷ play Together [] 8 8 99 (rectangle 1 0 Insert seam ∷ rectangle 1 0 Delete seam ∷ rectangle 2 0 Insert seam ∷ []) (whole ∷ whole ∷ heldBy1 ∷ []) []
+    ∷ play Together [] 8 8 99 (insertB 1 ∷ rectangle 2 0 Delete seam ∷ []) (okB ∷ heldBy1 ∷ []) (B ∷ [])
+    ∷ play Together (A ∷ []) 1 8 99 (rectangle 1 0 Delete seam ∷ rectangle 1 0 Insert seam ∷ []) (whole ∷ bare 7 ∷ []) []
+    ∷ play Together (B ∷ A ∷ []) 2 8 99 (rectangle 1 0 Delete seam ∷ insertC 2 ∷ plain (committing 1) ∷ insertC 2 ∷ []) (whole ∷ bare 7 ∷ bare 0 ∷ okB ∷ []) (C ∷ [])
     ∷ []
 
 abbrev played : Play → Play

@@ -11,7 +11,7 @@ use lib.ListN.{length}
 use lib.Signed.{_<ℤ_, _≤ℤ_}
 use Rattle.lists.specs.Lists.{All}
 use Rattle.strict.specs.Book.{Book, heldBy, needsPlace, spokenFor, step}
-use Rattle.strict.specs.Commutativity.{FirstHolder}
+use Rattle.strict.specs.Commutativity.{FirstHolder, Signature}
 use Rattle.strict.specs.Histories.{operation}
 use Rattle.strict.specs.Operations.{begun}
 use Rattle.strict.specs.Strict.{Log, _▷_, empty}
@@ -64,33 +64,33 @@ Apart [] = Unit {0}
 Apart (k ∷ ks) = All (λ i. k ≢ i) ks × Apart ks
 
 -- the operation calls on a list of tiles, and those of a rectangle
-abbrev pub operations : ℕ → Procedure → List Address → List Call
-operations job p xs = map (λ a. operating job p a) xs
+abbrev pub operations : ℕ → ℕ → Procedure → List Address → List Call
+operations job sheet p xs = map (λ a. operating job sheet p a) xs
 
-abbrev pub callsOf : ℕ → Change → Rectangle → List Call
-callsOf job change r = operations job (procedureFor change) (listed r)
+abbrev pub callsOf : ℕ → ℕ → Change → Rectangle → List Call
+callsOf job sheet change r = operations job sheet (procedureFor change) (listed r)
 
 -- the bytes of one record for each tile
-abbrev pub recordsOf : ℕ → Procedure → List Address → List ℕ
-recordsOf job p [] = []
-recordsOf job p (a ∷ xs) = encode (recordOf (operation job p (keyFor a)) true) ++ recordsOf job p xs
+abbrev pub recordsOf : ℕ → ℕ → Procedure → List Address → List ℕ
+recordsOf job sheet p [] = []
+recordsOf job sheet p (a ∷ xs) = encode (recordOf (operation job sheet p (keyFor a)) true) ++ recordsOf job sheet p xs
 
 -- THE ROOM OF EACH KIND, JUDGED ALONE: it runs out where the list is taken tile after tile
-abbrev pub placesRunOut : Rule → ℕ → Book → ℕ → Procedure → List ℕ → Bool
-placesRunOut rule places m job p [] = false
-placesRunOut rule places m job p (k ∷ ks) =
-    (needsPlace rule (m .table) (begun job p k (m .tiles)) && eqb (spokenFor rule m) places) || placesRunOut rule places (step m (operation job p k)) job p ks
+abbrev pub placesRunOut : Rule → ℕ → Book → ℕ → ℕ → Procedure → List ℕ → Bool
+placesRunOut rule places m job sheet p [] = false
+placesRunOut rule places m job sheet p (k ∷ ks) =
+    (needsPlace rule (m .table) (begun job p k (m .tiles)) && eqb (spokenFor rule m) places) || placesRunOut rule places (step m (operation job sheet p k)) job sheet p ks
 
-abbrev pub slotsRunOut : ℕ → Book → ℕ → Procedure → List ℕ → Bool
-slotsRunOut slots m job p [] = false
-slotsRunOut slots m job p (k ∷ ks) = eqb (length (m .table)) slots || slotsRunOut slots (step m (operation job p k)) job p ks
+abbrev pub slotsRunOut : ℕ → Book → ℕ → ℕ → Procedure → List ℕ → Bool
+slotsRunOut slots m job sheet p [] = false
+slotsRunOut slots m job sheet p (k ∷ ks) = eqb (length (m .table)) slots || slotsRunOut slots (step m (operation job sheet p k)) job sheet p ks
 
 abbrev pub bytesRunOut : ℕ → ℕ → List ℕ → Bool
 bytesRunOut free open-jobs [] = false
 bytesRunOut free open-jobs (k ∷ ks) = ltb free (operationSize + shortSize * open-jobs) || bytesRunOut (free - operationSize) open-jobs ks
 
 -- of the tiles ks, in order, the first that is held, and the first entry that holds it
-pub record FirstHeld (rule : Rule) (m : Book) (job : ℕ) (p : Procedure) (ks : List ℕ) (holder : ℕ) : Type 0 where
+pub record FirstHeld (rule : Rule) (m : Book) (job : ℕ) (p : Procedure) (ks : List ℕ) (holder : Signature) : Type 0 where
   pub earlier : List ℕ
   pub tile : ℕ
   pub later : List ℕ
@@ -109,11 +109,11 @@ Misshapen r = (r .east <ℤ r .west) ⊎ ((bottomRow r <ℤ topRow r) ⊎ ((2 ^ 
 -- CALLS FROM A START BY A RULE, WITH RECTANGLES AMONG THEM
 pub data Move : Type 0 where
   plain : Call → Move
-  rectangle : ℕ → Change → Rectangle → Move
+  rectangle : ℕ → ℕ → Change → Rectangle → Move
 
 abbrev pub moved : World → Move → Reported
 moved w (plain c) = call w c
-moved w (rectangle job change r) = rectangleCall w job change r
+moved w (rectangle job sheet change r) = rectangleCall w job sheet change r
 
 pub data FromMoves (by : Rule) (tiles : List ℕ) (count : ℕ) (operations journal : List ℕ) : Log Move → World → Type 0 where
   starting : startCall by tiles count operations journal .told .number ≡ 0
@@ -129,4 +129,4 @@ followed cs (d ∷ ds) = followed (cs ▷ d) ds
 abbrev pub written : Log Move → Log Call
 written empty = empty
 written (ms ▷ plain c) = written ms ▷ c
-written (ms ▷ rectangle job change r) = followed (written ms) (callsOf job change r)
+written (ms ▷ rectangle job sheet change r) = followed (written ms) (callsOf job sheet change r)

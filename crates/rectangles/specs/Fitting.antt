@@ -30,11 +30,11 @@ pub record Fits (w : World) (job : ℕ) (p : Procedure) (ks : List ℕ) : Type 0
   pub bytes : operationSize * length ks + shortSize * openMarks (w .session .marks) ≤ freeBytes w
 
 -- from turn to turn: what is ahead is what was ahead at the beginning
-pub record Ahead (job : ℕ) (p : Procedure) (w₀ : World) (ks₀ : List ℕ) (w : World) (ks : List ℕ) : Type 0 where
+pub record Ahead (job sheet : ℕ) (p : Procedure) (w₀ : World) (ks₀ : List ℕ) (w : World) (ks : List ℕ) : Type 0 where
   pub valid : All (λ k. isKey k ≡ true) ks
   pub apart : Apart ks
   pub fits : Fits w job p ks
-  pub ahead : carriedAll w job p ks ≡ carriedAll w₀ job p ks₀
+  pub ahead : carriedAll w job sheet p ks ≡ carriedAll w₀ job sheet p ks₀
   pub same-places : length (w .tiles) ≡ length (w₀ .tiles)
   pub same-slots : length (w .operations) ≡ length (w₀ .operations)
   pub same-journal : length (w .journal) ≡ length (w₀ .journal)

@@ -6,5 +6,5 @@ use Rattle.rectangles.specs.Rectangles.{rectangleCall}
 use Rattle.rectangles.specs.declared.Change.{Change}
 use Rattle.rectangles.specs.declared.Rectangle.{Rectangle}
 
-pub rectangle-once : (w : World) (job : ℕ) (change : Change) (r : Rectangle) → Once (rectangleCall w job change r)
-rectangle-once w job change r = reported-once (rectangleCall w job change r)
+pub rectangle-once : (w : World) (job sheet : ℕ) (change : Change) (r : Rectangle) → Once (rectangleCall w job sheet change r)
+rectangle-once w job sheet change r = reported-once (rectangleCall w job sheet change r)

@@ -8,6 +8,7 @@ use lib.IntN.{_+ℤ_, negsuc, pos, ℤ}
 use lib.ListN.{length}
 use Rattle.lists.specs.Truth.{oneIf}
 use Rattle.strict.specs.Book.{Book, heldBy, needsPlace, spokenFor}
+use Rattle.strict.specs.Commutativity.{Signature}
 use Rattle.strict.specs.Histories.{operation}
 use Rattle.strict.specs.Operations.{begun}
 use Rattle.strict.specs.declared.Procedure.the-variants.{Del, Ins}
@@ -97,11 +98,11 @@ procedureFor Insert = Ins
 procedureFor Delete = Del
 
 -- 6: the holder of the first tile of the list that is held
-abbrev pub firstOf : Option ℕ → Option ℕ → Option ℕ
-firstOf (some job) o = some job
+abbrev pub firstOf : Option Signature → Option Signature → Option Signature
+firstOf (some by) o = some by
 firstOf none o = o
 
-abbrev pub firstHeld : Rule → Book → ℕ → Procedure → List ℕ → Option ℕ
+abbrev pub firstHeld : Rule → Book → ℕ → Procedure → List ℕ → Option Signature
 firstHeld rule m job p [] = none
 firstHeld rule m job p (k ∷ ks) = firstOf (heldBy rule m job p k) (firstHeld rule m job p ks)
 
@@ -135,17 +136,17 @@ abbrev pub rectangleRefusals : World → ℕ → Procedure → Rectangle → Lis
 rectangleRefusals w job p r = endRefusals w job ++ shapeRefusals r ++ listRefusals w job p (keys (listed r))
 
 -- the operations of a list of keys, carried out one after another, with a record each
-abbrev pub carriedAll : World → ℕ → Procedure → List ℕ → World
-carriedAll w job p [] = w
-carriedAll w job p (k ∷ ks) = carriedAll (carried w (operation job p k)) job p ks
+abbrev pub carriedAll : World → ℕ → ℕ → Procedure → List ℕ → World
+carriedAll w job sheet p [] = w
+carriedAll w job sheet p (k ∷ ks) = carriedAll (carried w (operation job sheet p k)) job sheet p ks
 
 -- 0, with the turns of the first column and of the last
 abbrev pub covered : Rectangle → Told
-covered r = record { number = 0; answer = 0; holder = 0; turns = turnsOf (r .west) (2 ^ (r .zoom)); last = turnsOf (r .east) (2 ^ (r .zoom)) }
+covered r = record { number = 0; answer = 0; holder = 0; sheet = 0; turns = turnsOf (r .west) (2 ^ (r .zoom)); last = turnsOf (r .east) (2 ^ (r .zoom)) }
 
 -- whole or refused
-unfoldable pub rectangleCall : World → ℕ → Change → Rectangle → Reported
-rectangleCall w job change r =
+unfoldable pub rectangleCall : World → ℕ → ℕ → Change → Rectangle → Reported
+rectangleCall w job sheet change r =
     let p : Procedure = procedureFor change in
     let t : Told = decided (rectangleRefusals w job p r) (covered r) in
-    record { told = t; after = cond (eqb (t .number) 0) (carriedAll w job p (keys (listed r))) w }
+    record { told = t; after = cond (eqb (t .number) 0) (carriedAll w job sheet p (keys (listed r))) w }

@@ -12,6 +12,7 @@ use borrow.Author.Tests.{ne-eqb}
 use Rattle.lists.specs.Lists.{All}
 use Rattle.strict.specs.Book.{heldBy}
 use Rattle.strict.specs.Choices.{Choice}
+use Rattle.strict.specs.Commutativity.{Signature}
 use Rattle.strict.specs.Histories.{kept, opened}
 use Rattle.strict.specs.Operations.{Op}
 use Rattle.strict.specs.Strict.{Log, Strict, run}
@@ -19,10 +20,11 @@ use Rattle.strict.specs.Tiles.{member}
 use Rattle.strict.specs.declared.Rule.the-variants.{Alone}
 use Rattle.strict.specs.declared.Rule.{Rule}
 use Rattle.service.specs.Admission.{isOpen, openMarks}
-use Rattle.service.specs.Claims.{Keeps, RebuildsAlone, Serves, records}
+use Rattle.service.specs.Claims.{Keeps, RebuildsAlone, Serves, records, sheetlessTold}
 use Rattle.service.specs.Demands.{replay-exact}
 use Rattle.service.specs.Extents.{extentIn, upto}
-use Rattle.service.specs.History.{Call, From, history}
+use Rattle.service.specs.History.{Call, From, forSheets, history}
+use Rattle.service.specs.Laws.Sheets.{from-alike}
 use Rattle.service.specs.Limits.{jobCount, lastJob, northEdition, operationSize, shortSize, southEdition}
 use Rattle.service.specs.Sound.{soundB}
 use Rattle.service.specs.Tile.{isEdition, turnsOf}
@@ -34,6 +36,7 @@ use Rattle.rectangles.specs.Laws.Demanding.{rectangle-accepted, rectangl
 use Rattle.rectangles.specs.Laws.Judging.{told-first, told-five, told-fourteen, told-held, told-room, told-thirteen}
 use Rattle.rectangles.specs.Laws.Keeping.{all-keep, all-write}
 use Rattle.rectangles.specs.Laws.Listing.{length-sequence, span-within, within-span}
+use Rattle.rectangles.specs.Laws.Sheets.{rectangle-no-sheet, rectangle-told-alike}
 use Rattle.rectangles.specs.Laws.Tiles.{all-apart, in-order, listed-exactly}
 use Rattle.rectangles.specs.Laws.Whole.{done-shaped, moves-written, rectangle-serves, tells-turns, told-among, whole-done, whole-leaves}
 use Rattle.rectangles.specs.Rectangles.{carriedAll, height, keys, listed, outOfRange, procedureFor, rectangleCall, span, tileAt, width}
@@ -59,79 +62,83 @@ pub rectangle-in-order : (r : Rectangle) → Shaped r → (i j : ℕ) → i < j 
 rectangle-in-order r s i j l u = in-order r s i j l
 
 -- THE CALL
-module _ (w : World) (job : ℕ) (change : Change) (r : Rectangle) where
+module _ (w : World) (job sheet : ℕ) (change : Change) (r : Rectangle) where
   -- whole, or refused by a number of its list
-  pub rectangle-refusal-changes-nothing : rectangleCall w job change r .told .number ≢ 0
-      → (rectangleCall w job change r .after ≡ w) × (member (rectangleCall w job change r .told .number) refusingRectangle ≡ true)
+  pub rectangle-refusal-changes-nothing : rectangleCall w job sheet change r .told .number ≢ 0
+      → (rectangleCall w job sheet change r .after ≡ w) × (member (rectangleCall w job sheet change r .told .number) refusingRectangle ≡ true)
   unfolding rectangleCall
   rectangle-refusal-changes-nothing n = (
-    ap (λ b. cond b (carriedAll w job (procedureFor change) (keys (listed r))) w) (ne-eqb (rectangleCall w job change r .told .number) 0 n),
-    told-among w job change r n,
+    ap (λ b. cond b (carriedAll w job sheet (procedureFor change) (keys (listed r))) w) (ne-eqb (rectangleCall w job sheet change r .told .number) 0 n),
+    told-among w job sheet change r n,
   )
 
   -- where it is done it tells the turns of west and of east, and no refusal tells any
-  pub rectangle-turns : TellsTurns (rectangleCall w job change r .told) (turnsOf (r .west) (2 ^ (r .zoom))) (turnsOf (r .east) (2 ^ (r .zoom)))
-  rectangle-turns = tells-turns w job change r
+  pub rectangle-turns : TellsTurns (rectangleCall w job sheet change r .told) (turnsOf (r .west) (2 ^ (r .zoom))) (turnsOf (r .east) (2 ^ (r .zoom)))
+  rectangle-turns = tells-turns w job sheet change r
+
+  -- and only a hold names a sheet
+  pub rectangle-sheetless : rectangleCall w job sheet change r .told .number ≢ 6 → rectangleCall w job sheet change r .told .sheet ≡ 0
+  rectangle-sheetless = rectangle-no-sheet w job sheet change r
 
   -- its numbers: 1, then 2, then 3
-  pub rectangle-first-three : let told = rectangleCall w job change r .told .number in
+  pub rectangle-first-three : let told = rectangleCall w job sheet change r .told .number in
       ((told ≡ 1) ↔ (soundB w ≡ false))
       × ((told ≡ 2) ↔ ((soundB w ≡ true) × (lastJob < job)))
       × ((told ≡ 3) ↔ ((soundB w ≡ true) × (job ≤ lastJob) × (isOpen (state w) job ≡ false)))
-  rectangle-first-three = told-first w job change r
+  rectangle-first-three = told-first w job sheet change r
 
   -- then 14, then 5, and then 13
-  pub rectangle-fourteen : (rectangleCall w job change r .told .number ≡ 14) ↔ (Serves w job × (r .edition ≢ southEdition) × (r .edition ≢ northEdition))
-  rectangle-fourteen = told-fourteen w job change r
+  pub rectangle-fourteen : (rectangleCall w job sheet change r .told .number ≡ 14) ↔ (Serves w job × (r .edition ≢ southEdition) × (r .edition ≢ northEdition))
+  rectangle-fourteen = told-fourteen w job sheet change r
 
-  pub rectangle-five : (rectangleCall w job change r .told .number ≡ 5) ↔ (Serves w job × (isEdition (r .edition) ≡ true) × (outOfRange r ≡ true))
-  rectangle-five = told-five w job change r
+  pub rectangle-five : (rectangleCall w job sheet change r .told .number ≡ 5) ↔ (Serves w job × (isEdition (r .edition) ≡ true) × (outOfRange r ≡ true))
+  rectangle-five = told-five w job sheet change r
 
-  pub thirteen-exact : (rectangleCall w job change r .told .number ≡ 13)
+  pub thirteen-exact : (rectangleCall w job sheet change r .told .number ≡ 13)
       ↔ (Serves w job × (isEdition (r .edition) ≡ true) × (outOfRange r ≡ false) × Misshapen r)
-  thirteen-exact = told-thirteen w job change r
+  thirteen-exact = told-thirteen w job sheet change r
 
-  -- then 6, for the first held tile in the order of the list, with the job of the first entry that holds it
-  pub rectangle-held-first : (holder : ℕ)
-      → (rectangleCall w job change r .told ≡ toldHeld holder)
+  -- then 6, for the first held tile in the order of the list, with the job of the first entry that holds it, and its sheet
+  pub rectangle-held-first : (holder : Signature)
+      → (rectangleCall w job sheet change r .told ≡ toldHeld holder)
       ↔ (Serves w job × Shaped r × FirstHeld (w .session .rule) (state w .book) job (procedureFor change) (keys (listed r)) holder)
-  rectangle-held-first holder = told-held w job change r holder
+  rectangle-held-first holder = told-held w job sheet change r holder
 
   module _ (full : length (w .session .marks) ≡ jobCount) where
     -- then 7, 8 or 9, lowest first, exactly when the list taken tile after tile would run out of that room, each room judged alone
     pub rectangle-room : Serves w job → Shaped r → All (λ k. heldBy (w .session .rule) (state w .book) job (procedureFor change) k ≡ none) (keys (listed r)) →
         let p = procedureFor change in
         let ks = keys (listed r) in
-        let places = placesRunOut (w .session .rule) (length (w .tiles)) (state w .book) job p ks in
-        let slots = slotsRunOut (length (w .operations)) (state w .book) job p ks in
+        let places = placesRunOut (w .session .rule) (length (w .tiles)) (state w .book) job sheet p ks in
+        let slots = slotsRunOut (length (w .operations)) (state w .book) job sheet p ks in
         let bytes = bytesRunOut (freeBytes w) (openMarks (w .session .marks)) ks in
-        let told = rectangleCall w job change r .told .number in
+        let told = rectangleCall w job sheet change r .told .number in
         ((told ≡ 7) ↔ (places ≡ true))
         × ((told ≡ 8) ↔ ((places ≡ false) × (slots ≡ true)))
         × ((told ≡ 9) ↔ ((places ≡ false) × (slots ≡ false) × (bytes ≡ true)))
-    rectangle-room ready shaped unheld = told-room w job change r ready shaped unheld full
+    rectangle-room ready shaped unheld = told-room w job sheet change r ready shaped unheld full
 
     -- it is done exactly when its operations, called one after another, are all done, and then leaves the same
     pub rectangle-is-operations : Shaped r
-        → ((rectangleCall w job change r .told .number ≡ 0) ↔ AllDone w (callsOf job change r))
-        × (rectangleCall w job change r .told .number ≡ 0 → rectangleCall w job change r .after ≡ leftBy w (callsOf job change r))
-    rectangle-is-operations s = (whole-done w job change r full s, whole-leaves w job change r full s)
+        → ((rectangleCall w job sheet change r .told .number ≡ 0) ↔ AllDone w (callsOf job sheet change r))
+        × (rectangleCall w job sheet change r .told .number ≡ 0 → rectangleCall w job sheet change r .after ≡ leftBy w (callsOf job sheet change r))
+    rectangle-is-operations s = (whole-done w job sheet change r full s, whole-leaves w job sheet change r full s)
 
     -- what it keeps, and what it writes: a record for each tile
-    pub rectangle-keeps : rectangleCall w job change r .told .number ≡ 0 → Keeps w (rectangleCall w job change r .after)
+    pub rectangle-keeps : rectangleCall w job sheet change r .told .number ≡ 0 → Keeps w (rectangleCall w job sheet change r .after)
     rectangle-keeps ok =
-        let s = done-shaped w job change r ok in
-        let sound = rectangle-serves w job change r ok .is-sound-there in
-        subst (Keeps w) (sym (whole-leaves w job change r full s ok))
-        (all-keep w w (callsOf job change r)
+        let s = done-shaped w job sheet change r ok in
+        let sound = rectangle-serves w job sheet change r ok .is-sound-there in
+        subst (Keeps w) (sym (whole-leaves w job sheet change r full s ok))
+        (all-keep w w (callsOf job sheet change r)
         (record { still-sound = sound; same-rule = refl; all-marks = full; same-tiles = refl; same-operations = refl; same-journal = refl })
-        (whole-done w job change r full s .0 ok))
+        (whole-done w job sheet change r full s .0 ok))
 
-    pub rectangle-writes : rectangleCall w job change r .told .number ≡ 0
-        → usedJournal (rectangleCall w job change r .after) ≡ usedJournal w ++ recordsOf job (procedureFor change) (listed r)
+    pub rectangle-writes : rectangleCall w job sheet change r .told .number ≡ 0
+        → usedJournal (rectangleCall w job sheet change r .after) ≡ usedJournal w ++ recordsOf job sheet (procedureFor change) (listed r)
     rectangle-writes ok =
-        let s = done-shaped w job change r ok in
-        ap usedJournal (whole-leaves w job change r full s ok) ∙ all-write job change w (listed r) full (whole-done w job change r full s .0 ok)
+        let s = done-shaped w job sheet change r ok in
+        ap usedJournal (whole-leaves w job sheet change r full s ok) ∙ all-write job sheet change w (listed r) full (whole-done w job sheet change r full s .0 ok)
 
 -- FROM A START, by either rule
 -- what calls with rectangles among them reach, the calls with each rectangle written out reach too
@@ -146,30 +153,36 @@ pub moves-replay-exact : {by : Rule} {tiles : List ℕ} {count : ℕ} {operation
     RebuildsAlone (take n (usedJournal w)) tiles count operations′ (records (take count tiles) (upto by n h)) (extentIn by n h)
 moves-replay-exact f n operations′ same = replay-exact (written-out f) n operations′ same
 
+-- after histories that differ in their sheets alone it is told the same, for whatever sheet, but for the sheet that a hold names
+pub rectangle-sheets-apart : {by : Rule} {tiles : List ℕ} {count : ℕ} {operations journal : List ℕ} {cs ds : Log Call} {w v : World}
+    → From by tiles count operations journal cs w → From by tiles count operations journal ds v → forSheets 0 cs ≡ forSheets 0 ds
+    → (job one other : ℕ) (change : Change) (r : Rectangle) → sheetlessTold (rectangleCall w job one change r .told) ≡ sheetlessTold (rectangleCall v job other change r .told)
+rectangle-sheets-apart f g e = rectangle-told-alike (from-alike f g e)
+
 -- BY THE FIRST RULE
 -- a rectangle of an open job, that 14, 5 and 13 do not refuse, after the calls cs
 module _ {tiles : List ℕ} {count : ℕ} {operations journal : List ℕ} {cs : Log Call} {w : World} (from : From Alone tiles count operations journal cs w)
-    (job : ℕ) (change : Change) (r : Rectangle) (is-open : opened job (history cs) ≡ true) (shaped : Shaped r) where
+    (job sheet : ℕ) (change : Change) (r : Rectangle) (is-open : opened job (history cs) ≡ true) (shaped : Shaped r) where
   -- the starting tiles; and the operations that the calls keep, with those of the rectangle among them
   abbrev start-tiles : List ℕ
   start-tiles = take count tiles
 
   abbrev with-them : Log Op
-  with-them = kept start-tiles (history (followed cs (callsOf job change r)))
+  with-them = kept start-tiles (history (followed cs (callsOf job sheet change r)))
 
   -- held just where the history with its operations added would not be strict
-  pub rectangle-held-exact : (rectangleCall w job change r .told .number ≡ 6) ↔ (Strict Alone start-tiles with-them → ⊥)
-  rectangle-held-exact = rectangle-held from job change r is-open shaped
+  pub rectangle-held-exact : (rectangleCall w job sheet change r .told .number ≡ 6) ↔ (Strict Alone start-tiles with-them → ⊥)
+  rectangle-held-exact = rectangle-held from job sheet change r is-open shaped
 
   -- and, where that is strict, refused for want of tile room just where some choice of the kept operations leaves more tiles than there are places
   pub rectangle-room-exact : Strict Alone start-tiles with-them
-      → (rectangleCall w job change r .told .number ≡ 7) ↔ ((chosen : Log Op) × Choice with-them chosen × (length (w .tiles) < length (run start-tiles chosen)))
-  rectangle-room-exact strict = rectangle-room-just from job change r is-open shaped strict
+      → (rectangleCall w job sheet change r .told .number ≡ 7) ↔ ((chosen : Log Op) × Choice with-them chosen × (length (w .tiles) < length (run start-tiles chosen)))
+  rectangle-room-exact strict = rectangle-room-just from job sheet change r is-open shaped strict
 
   -- done just where it stays strict, no choice needs more tiles than there are places, and there are the entries' places and the bytes
-  pub rectangle-accepted-exact : (rectangleCall w job change r .told .number ≡ 0)
+  pub rectangle-accepted-exact : (rectangleCall w job sheet change r .told .number ≡ 0)
       ↔ (Strict Alone start-tiles with-them
       × ((chosen : Log Op) → Choice with-them chosen → length (run start-tiles chosen) ≤ length (w .tiles))
       × (length (state w .book .table) + length (keys (listed r)) ≤ length (w .operations))
       × (operationSize * length (keys (listed r)) + shortSize * openMarks (w .session .marks) ≤ freeBytes w))
-  rectangle-accepted-exact = rectangle-accepted from job change r is-open shaped
+  rectangle-accepted-exact = rectangle-accepted from job sheet change r is-open shaped

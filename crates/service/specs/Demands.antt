@@ -107,8 +107,8 @@ module _ {tiles : List ℕ} {count : ℕ} {operations journal : List ℕ} {cs : 
   abbrev first-tiles : List ℕ
   first-tiles = take count tiles
 
-  abbrev with-it : ℕ → Procedure → ℕ → Log Op
-  with-it job p k = kept first-tiles (history cs ▷ operation job p k)
+  abbrev with-it : ℕ → ℕ → Procedure → ℕ → Log Op
+  with-it job sheet p k = kept first-tiles (history cs ▷ operation job sheet p k)
 
   there-first : Arrived Alone tiles count operations journal (history cs) w
   there-first = arrived from
@@ -117,39 +117,39 @@ module _ {tiles : List ℕ} {count : ℕ} {operations journal : List ℕ} {cs : 
   reached-first = arrived-reached there-first
 
   -- an operation of an open job on an address with a key: held just where the history with it added would not be strict
-  pub held-exact : (job : ℕ) (p : Procedure) (a : Address) (k : ℕ) → opened job (history cs) ≡ true → keyOf a ≡ some k
-      → (operationCall w job p a .told .number ≡ 6) ↔ (Strict Alone first-tiles (with-it job p k) → ⊥)
-  held-exact job p a k o e =
-      held-just first-tiles (history cs) w (there-first .start-stands .ascending) reached-first (there-first .is-sound-there) job p a k o e
+  pub held-exact : (job sheet : ℕ) (p : Procedure) (a : Address) (k : ℕ) → opened job (history cs) ≡ true → keyOf a ≡ some k
+      → (operationCall w job sheet p a .told .number ≡ 6) ↔ (Strict Alone first-tiles (with-it job sheet p k) → ⊥)
+  held-exact job sheet p a k o e =
+      held-just first-tiles (history cs) w (there-first .start-stands .ascending) reached-first (there-first .is-sound-there) job sheet p a k o e
 
   -- and, where that is strict, refused for want of tile room just where some way of keeping or dropping the unfinished operations,
   -- it among them, needs more tiles than the table has
-  pub room-exact : (job : ℕ) (p : Procedure) (a : Address) (k : ℕ) → opened job (history cs) ≡ true → keyOf a ≡ some k
-      → Strict Alone first-tiles (with-it job p k)
-      → (operationCall w job p a .told .number ≡ 7)
-      ↔ ((chosen : Log Op) × Choice (with-it job p k) chosen × (length tiles < length (run first-tiles chosen)))
-  room-exact job p a k o e strict =
+  pub room-exact : (job sheet : ℕ) (p : Procedure) (a : Address) (k : ℕ) → opened job (history cs) ≡ true → keyOf a ≡ some k
+      → Strict Alone first-tiles (with-it job sheet p k)
+      → (operationCall w job sheet p a .told .number ≡ 7)
+      ↔ ((chosen : Log Op) × Choice (with-it job sheet p k) chosen × (length tiles < length (run first-tiles chosen)))
+  room-exact job sheet p a k o e strict =
       subst
       (λ N.
-      (operationCall w job p a .told .number ≡ 7)
-      ↔ ((chosen : Log Op) × Choice (with-it job p k) chosen × (N < length (run first-tiles chosen))))
+      (operationCall w job sheet p a .told .number ≡ 7)
+      ↔ ((chosen : Log Op) × Choice (with-it job sheet p k) chosen × (N < length (run first-tiles chosen))))
       (there-first .same-places)
-      (room-just first-tiles (history cs) w (there-first .start-stands .ascending) reached-first (there-first .is-sound-there) job p a k o e strict)
+      (room-just first-tiles (history cs) w (there-first .start-stands .ascending) reached-first (there-first .is-sound-there) job sheet p a k o e strict)
 
   -- accepted just where it stays strict, no such way needs more tiles than the table has, and there is an entry's place and the bytes
-  pub accepted-exact : (job : ℕ) (p : Procedure) (a : Address) (k : ℕ) → opened job (history cs) ≡ true → keyOf a ≡ some k
-      → (operationCall w job p a .told .number ≡ 0)
-      ↔ (Strict Alone first-tiles (with-it job p k)
-      × ((chosen : Log Op) → Choice (with-it job p k) chosen → length (run first-tiles chosen) ≤ length tiles)
+  pub accepted-exact : (job sheet : ℕ) (p : Procedure) (a : Address) (k : ℕ) → opened job (history cs) ≡ true → keyOf a ≡ some k
+      → (operationCall w job sheet p a .told .number ≡ 0)
+      ↔ (Strict Alone first-tiles (with-it job sheet p k)
+      × ((chosen : Log Op) → Choice (with-it job sheet p k) chosen → length (run first-tiles chosen) ≤ length tiles)
       × (w .session .operations < length (w .operations))
       × (operationBytes w ≤ freeBytes w))
-  accepted-exact job p a k o e =
+  accepted-exact job sheet p a k o e =
       subst
       (λ N.
-      (operationCall w job p a .told .number ≡ 0)
-      ↔ (Strict Alone first-tiles (with-it job p k)
-      × ((chosen : Log Op) → Choice (with-it job p k) chosen → length (run first-tiles chosen) ≤ N)
+      (operationCall w job sheet p a .told .number ≡ 0)
+      ↔ (Strict Alone first-tiles (with-it job sheet p k)
+      × ((chosen : Log Op) → Choice (with-it job sheet p k) chosen → length (run first-tiles chosen) ≤ N)
       × (w .session .operations < length (w .operations))
       × (operationBytes w ≤ freeBytes w)))
       (there-first .same-places)
-      (accepted-just first-tiles (history cs) w (there-first .start-stands .ascending) reached-first (there-first .is-sound-there) job p a k o e)
+      (accepted-just first-tiles (history cs) w (there-first .start-stands .ascending) reached-first (there-first .is-sound-there) job sheet p a k o e)

@@ -18,19 +18,25 @@ mostOperations = 1024
 abbrev pub mostBytes : ℕ
 mostBytes = 65536
 
--- the bytes of a record: of an open, a commit, an abort or a rule, and of an operation
+-- the bytes of a record: of an open, a commit, an abort or a rule; of an operation; and of one without a sheet
 abbrev pub shortSize : ℕ
 shortSize = 4
 
 abbrev pub operationSize : ℕ
-operationSize = 10
+operationSize = 12
 
--- a key is zoom, column and row; an entry is kind, job and key
+abbrev pub sheetlessSize : ℕ
+sheetlessSize = 10
+
+-- a key is zoom, column and row; an entry is sheet, kind, job and key
 abbrev pub zoomFactor : ℕ
 zoomFactor = 268435456
 
 abbrev pub columnFactor : ℕ
 columnFactor = 16384
+
+abbrev pub sheetFactor : ℕ
+sheetFactor = 281474976710656
 
 abbrev pub kindFactor : ℕ
 kindFactor = 1099511627776

@@ -12,7 +12,7 @@ use lib.Seq.{length-sets, sets-eq}
 use borrow.Author.Tests.{eq-eqb, eqb-false, eqb-true, le-ltb, lt-ltb, ltb-false, ltb-true, ne-eqb, not-true}
 use Rattle.lists.specs.Lists.{All}
 use Rattle.lists.specs.Truth.{both}
-use Rattle.strict.specs.Commutativity.{FirstHolder}
+use Rattle.strict.specs.Commutativity.{FirstHolder, Signature}
 use Rattle.strict.specs.Histories.{Event}
 use Rattle.strict.specs.Operations.{begun}
 use Rattle.strict.specs.Tiles.{member}
@@ -83,13 +83,13 @@ three-exact w c h = told-three w c h
 pub four-exact : (w : World) (job : ℕ) → (openCall w job .told .number ≡ 4) ↔ ((soundB w ≡ true) × (job ≤ lastJob) × (isOpen (state w) job ≡ true))
 four-exact w job = told-four w job
 
-pub fourteen-exact : (w : World) (job : ℕ) (p : Procedure) (a : Address)
-    → (operationCall w job p a .told .number ≡ 14) ↔ (Serves w job × (a .edition ≢ southEdition) × (a .edition ≢ northEdition))
-fourteen-exact w job p a = told-fourteen w job p a
+pub fourteen-exact : (w : World) (job sheet : ℕ) (p : Procedure) (a : Address)
+    → (operationCall w job sheet p a .told .number ≡ 14) ↔ (Serves w job × (a .edition ≢ southEdition) × (a .edition ≢ northEdition))
+fourteen-exact w job sheet p a = told-fourteen w job sheet p a
 
-pub five-exact : (w : World) (job : ℕ) (p : Procedure) (a : Address)
-    → (operationCall w job p a .told .number ≡ 5) ↔ (Serves w job × (isEdition (a .edition) ≡ true) × (keyOf a ≡ none))
-five-exact w job p a = told-five w job p a
+pub five-exact : (w : World) (job sheet : ℕ) (p : Procedure) (a : Address)
+    → (operationCall w job sheet p a .told .number ≡ 5) ↔ (Serves w job × (isEdition (a .edition) ≡ true) × (keyOf a ≡ none))
+five-exact w job sheet p a = told-five w job sheet p a
 
 -- an open whose job is not open is done or refused by 9, by the bytes that it asks for
 pub open-exact : (w : World) (job : ℕ) →
@@ -99,38 +99,38 @@ pub open-exact : (w : World) (job : ℕ) →
 open-exact w job = open-told w job
 
 -- an operation of an open job, on an address with the key k: then 6, and then 7, 8 and 9
-module _ (w : World) (job : ℕ) (p : Procedure) (a : Address) (k : ℕ) (v : Serves w job) (has-key : keyOf a ≡ some k) where
-  -- held is given just where an entry holds it by the session's rule, and names the job of the first
-  pub held-names-first : (holder : ℕ) → (operationCall w job p a .told ≡ toldHeld holder)
+module _ (w : World) (job sheet : ℕ) (p : Procedure) (a : Address) (k : ℕ) (v : Serves w job) (has-key : keyOf a ≡ some k) where
+  -- held is given just where an entry holds it by the session's rule, and names the job of the first and its sheet
+  pub held-names-first : (holder : Signature) → (operationCall w job sheet p a .told ≡ toldHeld holder)
       ↔ FirstHolder (w .session .rule) (begun job p k (usedTiles w)) (map opIn (usedOperations w)) holder
-  held-names-first holder = held-names w job p a k v has-key holder
+  held-names-first holder = held-names w job sheet p a k v has-key holder
 
   -- 7 just where no entry holds it, it needs a tile place, and all are spoken for
-  pub seven-exact : (operationCall w job p a .told .number ≡ 7) ↔ ((holderIn w job p k ≡ none) × Placeless w job p k)
-  seven-exact = told-seven w job p a k v has-key
+  pub seven-exact : (operationCall w job sheet p a .told .number ≡ 7) ↔ ((holderIn w job p k ≡ none) × Placeless w job p k)
+  seven-exact = told-seven w job sheet p a k v has-key
 
   -- 8 just where then all entries' places are used
-  pub eight-exact : (operationCall w job p a .told .number ≡ 8)
+  pub eight-exact : (operationCall w job sheet p a .told .number ≡ 8)
       ↔ ((holderIn w job p k ≡ none) × (Placeless w job p k → ⊥) × (w .session .operations ≡ length (w .operations)))
-  eight-exact = told-eight w job p a k v has-key
+  eight-exact = told-eight w job sheet p a k v has-key
 
   -- 9 just where then too few bytes are free
-  pub nine-exact : (operationCall w job p a .told .number ≡ 9)
+  pub nine-exact : (operationCall w job sheet p a .told .number ≡ 9)
       ↔ ((holderIn w job p k ≡ none) × (Placeless w job p k → ⊥) × (w .session .operations < length (w .operations)) × (freeBytes w < operationBytes w))
-  nine-exact = told-nine w job p a k v has-key
+  nine-exact = told-nine w job sheet p a k v has-key
 
   -- and 0 just where none of these is so
-  pub accepted-given : (operationCall w job p a .told .number ≡ 0)
+  pub accepted-given : (operationCall w job sheet p a .told .number ≡ 0)
       ↔ ((holderIn w job p k ≡ none) × (Placeless w job p k → ⊥) × (w .session .operations < length (w .operations)) × (operationBytes w ≤ freeBytes w))
-  accepted-given = accepted-told w job p a k v has-key
+  accepted-given = accepted-told w job sheet p a k v has-key
 
   -- where a job fails as one, 6 is given just where an unfinished entry of another job changed that tile
-  pub held-own : w .session .rule ≡ Together → (operationCall w job p a .told .number ≡ 6) ↔ ChangedByOther job k (usedOperations w)
-  held-own rule = held-by-other w job p a k v has-key rule
+  pub held-own : w .session .rule ≡ Together → (operationCall w job sheet p a .told .number ≡ 6) ↔ ChangedByOther job k (usedOperations w)
+  held-own rule = held-by-other w job sheet p a k v has-key rule
 
   -- and 7 just where it is an ins of an absent tile that is not counted, and the tiles with those that are counted take all places
-  pub room-own : w .session .rule ≡ Together → (operationCall w job p a .told .number ≡ 7) ↔ NoRoomByJob w job p k
-  room-own rule = room-by-job w job p a k v has-key rule
+  pub room-own : w .session .rule ≡ Together → (operationCall w job sheet p a .told .number ≡ 7) ↔ NoRoomByJob w job p k
+  room-own rule = room-by-job w job sheet p a k v has-key rule
 
 -- a start is refused by 1, and then by 9 where the journal has no room for its rule; that gives the empty session, by the first rule, and touches nothing
 module _ (r : Rule) (tiles : List ℕ) (count : ℕ) (operations journal : List ℕ) where

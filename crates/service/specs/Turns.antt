@@ -9,6 +9,7 @@ use lib.Dec.{eqb}
 use lib.IntN.{_*ℤ_, _+ℤ_, pos, ℤ}
 use lib.Pow.{pow-pos}
 use Rattle.lists.specs.Lists.{All}
+use Rattle.strict.specs.Commutativity.{Signature}
 use Rattle.strict.specs.declared.Rule.{Rule}
 use Rattle.service.specs.Addresses.{address-given, key-parts}
 use Rattle.service.specs.Admission.{answerTo}
@@ -57,7 +58,7 @@ TellsTurns t turns last = (t .turns ≡ cond (eqb (t .number) 0) turns (pos 0)) 
 abbrev pub Turnless : List Refusal → Type 0
 Turnless rs = All (λ r. (r .says .turns ≡ pos 0) × (r .says .last ≡ pos 0)) rs
 
-pub held-turnless : (o : Option ℕ) → (refuseHeld o .says .turns ≡ pos 0) × (refuseHeld o .says .last ≡ pos 0)
+pub held-turnless : (o : Option Signature) → (refuseHeld o .says .turns ≡ pos 0) × (refuseHeld o .says .last ≡ pos 0)
 held-turnless none = (refl, refl)
 held-turnless (some job) = (refl, refl)
 
@@ -73,7 +74,7 @@ turnless : (w : World) (c : Call) → Turnless (refusalsOf w c)
 turnless w (opening job) = ((refl, refl), ((refl, refl), ((refl, refl), ((refl, refl), tt))))
 turnless w (committing job) = ((refl, refl), ((refl, refl), ((refl, refl), tt)))
 turnless w (aborting job) = ((refl, refl), ((refl, refl), ((refl, refl), tt)))
-turnless w (operating job p a) =
+turnless w (operating job sheet p a) =
     ((refl, refl), ((refl, refl), ((refl, refl), ((refl, refl), ((refl, refl), (held-turnless (holderIn w job p (addressCall a .key)), ((refl, refl), ((refl, refl), ((refl, refl), tt)))))))))
 
 -- an operation that is done tells the turns of its address; every other reply, and every refusal, tells 0

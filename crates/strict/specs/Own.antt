@@ -22,7 +22,7 @@ abbrev B : ℕ
 B = 1073741824
 
 abbrev insertedDeleted : Log Event
-insertedDeleted = empty ▷ openJob 1 ▷ openJob 2 ▷ operation 1 Ins A ▷ operation 1 Del A
+insertedDeleted = empty ▷ openJob 1 ▷ openJob 2 ▷ operation 1 0 Ins A ▷ operation 1 0 Del A
 
 abbrev there : Book
 there = bookAfter [] insertedDeleted
@@ -35,7 +35,7 @@ left z a b =
     cond b two (two ▷ z)
 
 -- another job's mem of A is held, and yet strict: the converse of `admitted-strict` does not hold
-pub held-though-strict : (heldBy Together there 2 Mem A ≡ some 1) × Strict Together [] (kept [] (insertedDeleted ▷ operation 2 Mem A))
+pub held-though-strict : (heldBy Together there 2 Mem A ≡ some (record { job = 1; sheet = 0 })) × Strict Together [] (kept [] (insertedDeleted ▷ operation 2 0 Mem A))
 unfolding left
 held-though-strict = (refl, λ d. record { same-answers = answers (d 1) (d 2); taken-back = λ g e. same-tiles (d 1) (d 2) (eqb g 1) (eqb g 2) })
   where
@@ -71,7 +71,7 @@ held-though-strict = (refl, λ d. record { same-answers = answers (d 1) (d 2); t
 
 -- in one place, its insert of B is refused, though every choice of whole jobs leaves one tile at most
 pub spoken-for-though-free : (needsPlace Together (there .table) (begun 2 Ins B []) ≡ true) × (spokenFor Together there ≡ 1)
-    × ((d : ℕ → Bool) → length (run [] (without (inGroups Together d) (kept [] (insertedDeleted ▷ operation 2 Ins B)))) ≤ 1)
+    × ((d : ℕ → Bool) → length (run [] (without (inGroups Together d) (kept [] (insertedDeleted ▷ operation 2 0 Ins B)))) ≤ 1)
 unfolding left
 spoken-for-though-free = (refl, refl, λ d. fits (d 1) (d 2))
   where

@@ -10,7 +10,7 @@ use lib.Dec.{eqb}
 use lib.ListN.{length}
 use Rattle.strict.specs.Book.{Admitted, Book, CountedTiles, LeftCommitted, Roomy, Unheld, bookAfter, heldBy, oldestFirst, recover, spokenFor, step, sweep}
 use Rattle.strict.specs.Choices.{Choice, StrictLists}
-use Rattle.strict.specs.Commutativity.{Commutes, FirstHolder, commutes, holder}
+use Rattle.strict.specs.Commutativity.{Commutes, FirstHolder, Signature, commutes, holder}
 use Rattle.strict.specs.Histories.{Event, abort, kept, opened, operation, strike, unfinished}
 use Rattle.strict.specs.Laws.Counted.{counted-tiles}
 use Rattle.strict.specs.Laws.Ending.{recover-either-way}
@@ -35,8 +35,8 @@ pub table-exact : (p : Procedure) (found : Bool) (k : ℕ) (r : Step) (i : ℕ) 
 table-exact p found k r i = definition-2 p found k r i
 
 -- the holder named is the first, in order of admission, that holds
-pub first-holder : (r : Rule) (o : Op) (us : List Op) (job : ℕ) → (holder r o us ≡ some job) ↔ FirstHolder r o us job
-first-holder r o us job = holder-first r o us job
+pub first-holder : (r : Rule) (o : Op) (us : List Op) (by : Signature) → (holder r o us ≡ some by) ↔ FirstHolder r o us by
+first-holder r o us by = holder-first r o us by
 
 -- strict by places is strict by lists, as the report's Definition 1 words it
 pub strict-by-lists : (s : List ℕ) (os : Log Op) → Strict Alone s os ↔ StrictLists s os
@@ -90,9 +90,9 @@ module _ (r : Rule) (s : List ℕ) (h : Log Event) (ascending : Ascending s) (ad
 
 module _ (s : List ℕ) (h : Log Event) (ascending : Ascending s) (admitted : Admitted Alone s h) where
   -- an operation of an open job is not held just where the history with it is strict
-  pub held-is-exact : (j : ℕ) (p : Procedure) (k : ℕ) → opened j h ≡ true
-      → (heldBy Alone (bookAfter s h) j p k ≡ none) ↔ Strict Alone s (kept s (h ▷ operation j p k))
-  held-is-exact j p k is-open = held-exactly s h j p k ascending admitted is-open
+  pub held-is-exact : (j sheet : ℕ) (p : Procedure) (k : ℕ) → opened j h ≡ true
+      → (heldBy Alone (bookAfter s h) j p k ≡ none) ↔ Strict Alone s (kept s (h ▷ operation j sheet p k))
+  held-is-exact j sheet p k is-open = held-exactly s h j sheet p k ascending admitted is-open
 
   -- some choice of the kept operations leaves more than N tiles just where more than N places are spoken for
   pub room-is-exact : (N : ℕ) → ((chosen : Log Op) × Choice (kept s h) chosen × (N < length (run s chosen))) ↔ (N < spokenFor Alone (bookAfter s h))

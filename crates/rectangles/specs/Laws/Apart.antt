@@ -16,7 +16,7 @@ use Rattle.strict.specs.Laws.Counted.{deleted-last}
 use Rattle.strict.specs.Laws.Holding.{rows}
 use Rattle.strict.specs.Laws.Members.{member-apply, touch}
 use Rattle.strict.specs.Laws.Undoing.{touch-off}
-use Rattle.strict.specs.Operations.{Op, Step, begun, clear, effect, inverse, kind, put, skip}
+use Rattle.strict.specs.Operations.{Op, Step, begun, clear, effect, inverse, kind, ofSheet, put, skip}
 use Rattle.strict.specs.Tiles.{member}
 use Rattle.strict.specs.declared.Procedure.{Procedure}
 use Rattle.strict.specs.declared.Rule.{Rule}
@@ -51,19 +51,19 @@ needs-before Together o u us d =
     ∙ ap (λ b. deleted (o .key) us || b) (and-false three)
     ∙ or-false (deleted (o .key) us))
 
-module _ (r : Rule) (m : Book) (job : ℕ) (p : Procedure) (k : ℕ) where
+module _ (r : Rule) (m : Book) (job sheet : ℕ) (p : Procedure) (k : ℕ) where
   abbrev next : Book
-  next = step m (operation job p k)
+  next = step m (operation job sheet p k)
 
   begun-same : (i : ℕ) → k ≢ i → begun job p i (next .tiles) ≡ begun job p i (m .tiles)
   begun-same i d =
-      ap (λ b. record { job = job; proc = p; key = i; found = b; done = false })
+      ap (λ b. record { job = job; proc = p; key = i; found = b; done = false; sheet = 0 })
       (member-apply (effect p) i k (m .tiles) ∙ ap (λ b. touch (effect p) b (member i (m .tiles))) (ne-eqb i k (λ e. d (sym e))) ∙ touch-off (effect p) (member i (m .tiles)))
 
   pub held-same : (i : ℕ) → k ≢ i → heldBy r next job p i ≡ heldBy r m job p i
   held-same i d =
       ap (λ o. holder r o (next .table)) (begun-same i d)
-      ∙ holder-before r (begun job p i (m .tiles)) (begun job p k (m .tiles)) (m .table) (holds-not r (begun job p i (m .tiles)) (begun job p k (m .tiles)) (λ e. d (sym e)))
+      ∙ holder-before r (begun job p i (m .tiles)) (ofSheet sheet (begun job p k (m .tiles))) (m .table) (holds-not r (begun job p i (m .tiles)) (ofSheet sheet (begun job p k (m .tiles))) (λ e. d (sym e)))
 
   pub first-held-same : (ks : List ℕ) → All (λ i. k ≢ i) ks → firstHeld r next job p ks ≡ firstHeld r m job p ks
   first-held-same [] d = refl
@@ -74,7 +74,7 @@ module _ (r : Rule) (m : Book) (job : ℕ) (p : Procedure) (k : ℕ) where
   needed-same (i ∷ ks) d =
       ap₂ (λ b n. oneIf b + n)
       (ap (needsPlace r (next .table)) (begun-same i (d .0))
-      ∙ needs-before r (begun job p i (m .tiles)) (begun job p k (m .tiles)) (m .table) (λ e. d .0 (sym e)))
+      ∙ needs-before r (begun job p i (m .tiles)) (ofSheet sheet (begun job p k (m .tiles))) (m .table) (λ e. d .0 (sym e)))
       (needed-same ks (d .1))
 
   -- none of others is held before just where none is held afterwards

@@ -40,11 +40,11 @@ use Rattle.rectangles.specs.Rectangles.{firstHeld, keys, listed, needed,
 use Rattle.rectangles.specs.declared.Change.{Change}
 use Rattle.rectangles.specs.declared.Rectangle.{Rectangle}
 
-history-followed : (job : ℕ) (p : Procedure) (cs : Log Call) (xs : List Address) → withAll (history cs) job p (keys xs) ≡ history (followed cs (operations job p xs))
-history-followed job p cs [] = refl
-history-followed job p cs (a ∷ xs) = history-followed job p _ xs
+history-followed : (job sheet : ℕ) (p : Procedure) (cs : Log Call) (xs : List Address) → withAll (history cs) job sheet p (keys xs) ≡ history (followed cs (operations job sheet p xs))
+history-followed job sheet p cs [] = refl
+history-followed job sheet p cs (a ∷ xs) = history-followed job sheet p _ xs
 
-module _ {tiles : List ℕ} {count : ℕ} {lent journal : List ℕ} {cs : Log Call} {w : World} (from : From Alone tiles count lent journal cs w) (job : ℕ) (change : Change) (r : Rectangle)
+module _ {tiles : List ℕ} {count : ℕ} {lent journal : List ℕ} {cs : Log Call} {w : World} (from : From Alone tiles count lent journal cs w) (job sheet : ℕ) (change : Change) (r : Rectangle)
     (is-open : opened job (history cs) ≡ true) (shaped : Shaped r) where
   abbrev s : List ℕ
   s = take count tiles
@@ -81,7 +81,7 @@ module _ {tiles : List ℕ} {count : ℕ} {lent journal : List ℕ} {cs : Log Ca
   ready = let l = few-jobs Alone s h (there .admitted) job is-open in record { is-sound-there = there .sound; small = omega arith; is-open = there .open-jobs job ∙ is-open }
 
   abbrev added : Log Op
-  added = kept s (history (followed cs (callsOf job change r)))
+  added = kept s (history (followed cs (callsOf job sheet change r)))
 
   abbrev N : ℕ
   N = length (w .tiles)
@@ -89,15 +89,15 @@ module _ {tiles : List ℕ} {count : ℕ} {lent journal : List ℕ} {cs : Log Ca
   free-iff : (firstHeld (w .session .rule) (state w .book) job p ks ≡ none) ↔ Strict Alone s added
   free-iff =
       let m = state w .book in
-      let f = free-strict s job p asc h ks (there .admitted) is-open (all-apart r shaped) in
-      let q : kept s (withAll h job p ks) ≡ added = ap (kept s) (history-followed job p cs (listed r)) in (
+      let f = free-strict s job sheet p asc h ks (there .admitted) is-open (all-apart r shaped) in
+      let q : kept s (withAll h job sheet p ks) ≡ added = ap (kept s) (history-followed job sheet p cs (listed r)) in (
         λ e. subst (Strict Alone s) q (f .0 (of-history Unheld (held-none (w .session .rule) m job p ks e))),
         λ strict. none-held (w .session .rule) m job p ks (of-session Unheld (f .1 (subst (Strict Alone s) (sym q) strict))),
       )
 
-  pub rectangle-held : (rectangleCall w job change r .told .number ≡ 6) ↔ (Strict Alone s added → ⊥)
+  pub rectangle-held : (rectangleCall w job sheet change r .told .number ≡ 6) ↔ (Strict Alone s added → ⊥)
   rectangle-held =
-      let six = told-six w job change r in
+      let six = told-six w job sheet change r in
       (λ e strict. six .0 e .2 (free-iff .1 strict), λ f. six .1 (ready, shaped, λ e. f (free-iff .0 e)))
 
   -- some choice leaves more than N tiles just where more than N places are spoken for
@@ -107,24 +107,24 @@ module _ {tiles : List ℕ} {count : ℕ} {lent journal : List ℕ} {cs : Log Ca
       let m = state w .book in
       let free = held-none (w .session .rule) m job p ks (free-iff .1 strict) in
       let free-there = of-history Unheld free in
-      let admitted = all-admitted s job p asc h ks (there .admitted) is-open (all-apart r shaped) free-there in
-      let exact = room-is-exact s (withAll h job p ks) asc admitted N in
-      let q : kept s (withAll h job p ks) ≡ added = ap (kept s) (history-followed job p cs (listed r)) in
+      let admitted = all-admitted s job sheet p asc h ks (there .admitted) is-open (all-apart r shaped) free-there in
+      let exact = room-is-exact s (withAll h job sheet p ks) asc admitted N in
+      let q : kept s (withAll h job sheet p ks) ≡ added = ap (kept s) (history-followed job sheet p cs (listed r)) in
       let up : Ascending (bookAfter s h .tiles) = subst (λ (x : Book). Ascending (x .tiles)) (there .book-there) (sound-is w (there .sound) .tables .ascending) in
-      let grown : spokenFor Alone (bookAfter s (withAll h job p ks)) ≡ spokenFor (w .session .rule) m + needed (w .session .rule) m job p ks =
-      spoken-all s job p asc h ks (all-apart r shaped) up ∙ ap₂ (λ b (x : Book). spokenFor b x + needed b x job p ks) (sym by-alone) (sym (there .book-there)) in
-      let e : ((chosen : Log Op) × Choice added chosen × (N < length (run s chosen))) ↔ (N < spokenFor Alone (bookAfter s (withAll h job p ks))) =
-      subst (λ l. ((chosen : Log Op) × Choice l chosen × (N < length (run s chosen))) ↔ (N < spokenFor Alone (bookAfter s (withAll h job p ks)))) q exact in
+      let grown : spokenFor Alone (bookAfter s (withAll h job sheet p ks)) ≡ spokenFor (w .session .rule) m + needed (w .session .rule) m job p ks =
+      spoken-all s job sheet p asc h ks (all-apart r shaped) up ∙ ap₂ (λ b (x : Book). spokenFor b x + needed b x job p ks) (sym by-alone) (sym (there .book-there)) in
+      let e : ((chosen : Log Op) × Choice added chosen × (N < length (run s chosen))) ↔ (N < spokenFor Alone (bookAfter s (withAll h job sheet p ks))) =
+      subst (λ l. ((chosen : Log Op) × Choice l chosen × (N < length (run s chosen))) ↔ (N < spokenFor Alone (bookAfter s (withAll h job sheet p ks)))) q exact in
       (λ c. let l = e .0 c in omega arith, λ l. e .1 (omega arith))
 
   pub rectangle-room-just : Strict Alone s added
-      → (rectangleCall w job change r .told .number ≡ 7) ↔ ((chosen : Log Op) × Choice added chosen × (N < length (run s chosen)))
+      → (rectangleCall w job sheet change r .told .number ≡ 7) ↔ ((chosen : Log Op) × Choice added chosen × (N < length (run s chosen)))
   rectangle-room-just strict =
       let m = state w .book in
       let free = held-none (w .session .rule) m job p ks (free-iff .1 strict) in
-      let room = told-room w job change r ready shaped free (all-marks from) .0 in
+      let room = told-room w job sheet change r ready shaped free (all-marks from) .0 in
       let o = sound-is w (there .sound) in
-      let out = places-run-out (w .session .rule) job p N ks m (all-apart r shaped) (o .tables .ascending) (o .tables .room) in
+      let out = places-run-out (w .session .rule) job sheet p N ks m (all-apart r shaped) (o .tables .ascending) (o .tables .room) in
       let iff = room-iff strict in (
         λ e. iff .1 (ltb-true _ _ (sym out ∙ room .0 e)),
         λ c. room .1 (out ∙ lt-ltb _ _ (iff .0 c)),
@@ -147,13 +147,13 @@ module _ {tiles : List ℕ} {count : ℕ} {lent journal : List ℕ} {cs : Log Ca
       by f true q = leb-true _ _ q
       by f false q = let c = room-iff strict .1 (leb-false _ _ q) in let l = f (c .0) (c .1) in let g = c .2 in absurd (omega arith)
 
-  pub rectangle-accepted : (rectangleCall w job change r .told .number ≡ 0)
+  pub rectangle-accepted : (rectangleCall w job sheet change r .told .number ≡ 0)
       ↔ (Strict Alone s added
       × ((chosen : Log Op) → Choice added chosen → length (run s chosen) ≤ N)
       × (length (state w .book .table) + length ks ≤ length (w .operations))
       × (operationSize * length ks + shortSize * openMarks (w .session .marks) ≤ freeBytes w))
   rectangle-accepted = (
-    λ e. let f = passed-fits w job change r e in let strict = free-iff .0 (f .unheld) in (strict, fits-iff strict .0 (f .places), f .slots, f .bytes),
-    λ c. fits-passed w job change r shaped
+    λ e. let f = passed-fits w job sheet change r e in let strict = free-iff .0 (f .unheld) in (strict, fits-iff strict .0 (f .places), f .slots, f .bytes),
+    λ c. fits-passed w job sheet change r shaped
         (record { ready = ready; unheld = free-iff .1 (c .0); places = fits-iff (c .0) .1 (c .1); slots = c .2; bytes = c .3 }),
   )

@@ -16,7 +16,7 @@ use Rattle.strict.specs.Laws.Following.{follows-strict}
 use Rattle.strict.specs.Laws.Holding.{back-beyond}
 use Rattle.strict.specs.Laws.Members.{ascending-apply}
 use Rattle.strict.specs.Laws.Room.{room-operation}
-use Rattle.strict.specs.Operations.{Op, begun, effect}
+use Rattle.strict.specs.Operations.{Op, begun, effect, ofSheet}
 use Rattle.strict.specs.Strict.{Log, SameAnswers, Strict, _▷_, back, inGroups, run, size, without}
 use Rattle.strict.specs.Theorems.{held-is-exact}
 use Rattle.strict.specs.Tiles.{Ascending}
@@ -27,9 +27,9 @@ use Rattle.rectangles.specs.Laws.Apart.{free-before, free-then, needed-s
 use Rattle.rectangles.specs.Rectangles.{needed}
 
 -- h, and then the operations of a list of keys
-abbrev pub withAll : Log Event → ℕ → Procedure → List ℕ → Log Event
-withAll h job p [] = h
-withAll h job p (k ∷ ks) = withAll (h ▷ operation job p k) job p ks
+abbrev pub withAll : Log Event → ℕ → ℕ → Procedure → List ℕ → Log Event
+withAll h job sheet p [] = h
+withAll h job sheet p (k ∷ ks) = withAll (h ▷ operation job sheet p k) job sheet p ks
 
 -- what stands before an unfinished operation is strict where all is: drop that one, whatever else is dropped
 module _ (s : List ℕ) (os : Log Op) (o : Op) (new : o .done ≡ false) (strict : Strict Alone s (os ▷ o)) where
@@ -74,36 +74,36 @@ module _ (s : List ℕ) (os : Log Op) (o : Op) (new : o .done ≡ false) (strict
         taken-back = λ g e. undone-before d g e (ltb g (size os)) refl;
       }
 
-module _ (s : List ℕ) (job : ℕ) (p : Procedure) where
-  strict-first : (h : Log Event) (ks : List ℕ) → Strict Alone s (kept s (withAll h job p ks)) → Strict Alone s (kept s h)
+module _ (s : List ℕ) (job sheet : ℕ) (p : Procedure) where
+  strict-first : (h : Log Event) (ks : List ℕ) → Strict Alone s (kept s (withAll h job sheet p ks)) → Strict Alone s (kept s h)
   strict-first h [] strict = strict
-  strict-first h (k ∷ ks) strict = strict-before s (kept s h) (begun job p k (run s (kept s h))) refl (strict-first (h ▷ operation job p k) ks strict)
+  strict-first h (k ∷ ks) strict = strict-before s (kept s h) (ofSheet sheet (begun job p k (run s (kept s h)))) refl (strict-first (h ▷ operation job sheet p k) ks strict)
 
   module _ (asc : Ascending s) where
     -- none is held: then all are admitted one after another
     pub all-admitted : (h : Log Event) (ks : List ℕ) → Admitted Alone s h → opened job h ≡ true → Apart ks
-        → All (λ k. heldBy Alone (bookAfter s h) job p k ≡ none) ks → Admitted Alone s (withAll h job p ks)
+        → All (λ k. heldBy Alone (bookAfter s h) job p k ≡ none) ks → Admitted Alone s (withAll h job sheet p ks)
     all-admitted h [] a o apart free = a
     all-admitted h (k ∷ ks) a o apart free =
-        all-admitted (h ▷ operation job p k) ks (a, o, free .0) o (apart .1) (free-then Alone (bookAfter s h) job p k ks (apart .0) (free .1))
+        all-admitted (h ▷ operation job sheet p k) ks (a, o, free .0) o (apart .1) (free-then Alone (bookAfter s h) job sheet p k ks (apart .0) (free .1))
 
     all-unheld : (h : Log Event) (ks : List ℕ) → Admitted Alone s h → opened job h ≡ true → Apart ks
-        → Strict Alone s (kept s (withAll h job p ks)) → All (λ k. heldBy Alone (bookAfter s h) job p k ≡ none) ks
+        → Strict Alone s (kept s (withAll h job sheet p ks)) → All (λ k. heldBy Alone (bookAfter s h) job p k ≡ none) ks
     all-unheld h [] a o apart strict = tt
     all-unheld h (k ∷ ks) a o apart strict =
-        let free = held-is-exact s h asc a job p k o .1 (strict-first (h ▷ operation job p k) ks strict) in
-        (free, free-before Alone (bookAfter s h) job p k ks (apart .0) (all-unheld (h ▷ operation job p k) ks (a, o, free) o (apart .1) strict))
+        let free = held-is-exact s h asc a job sheet p k o .1 (strict-first (h ▷ operation job sheet p k) ks strict) in
+        (free, free-before Alone (bookAfter s h) job sheet p k ks (apart .0) (all-unheld (h ▷ operation job sheet p k) ks (a, o, free) o (apart .1) strict))
 
     -- and then so many more places are spoken for
     pub spoken-all : (h : Log Event) (ks : List ℕ) → Apart ks → Ascending (bookAfter s h .tiles)
-        → spokenFor Alone (bookAfter s (withAll h job p ks)) ≡ spokenFor Alone (bookAfter s h) + needed Alone (bookAfter s h) job p ks
+        → spokenFor Alone (bookAfter s (withAll h job sheet p ks)) ≡ spokenFor Alone (bookAfter s h) + needed Alone (bookAfter s h) job p ks
     spoken-all h [] apart up = omega arith
     spoken-all h (k ∷ ks) apart up =
-        let ih = spoken-all (h ▷ operation job p k) ks (apart .1) (ascending-apply (effect p) k (bookAfter s h .tiles) up) in
-        let grown = room-operation Alone (bookAfter s h) job p k up in
-        let same = needed-same Alone (bookAfter s h) job p k ks (apart .0) in
+        let ih = spoken-all (h ▷ operation job sheet p k) ks (apart .1) (ascending-apply (effect p) k (bookAfter s h .tiles) up) in
+        let grown = room-operation Alone (bookAfter s h) job sheet p k up in
+        let same = needed-same Alone (bookAfter s h) job sheet p k ks (apart .0) in
         omega arith
 
     pub free-strict : (h : Log Event) (ks : List ℕ) → Admitted Alone s h → opened job h ≡ true → Apart ks
-        → All (λ k. heldBy Alone (bookAfter s h) job p k ≡ none) ks ↔ Strict Alone s (kept s (withAll h job p ks))
-    free-strict h ks a o apart = (λ free. follows-strict Alone s (withAll h job p ks) asc (all-admitted h ks a o apart free), all-unheld h ks a o apart)
+        → All (λ k. heldBy Alone (bookAfter s h) job p k ≡ none) ks ↔ Strict Alone s (kept s (withAll h job sheet p ks))
+    free-strict h ks a o apart = (λ free. follows-strict Alone s (withAll h job sheet p ks) asc (all-admitted h ks a o apart free), all-unheld h ks a o apart)

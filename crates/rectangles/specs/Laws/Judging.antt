@@ -14,6 +14,7 @@ use borrow.Author.Tests.{eq-eqb, eqb-true, le-ltb, lt-ltb, ltb-false, ltb-true, 
 use Rattle.lists.specs.Lists.{All}
 use Rattle.lists.specs.Truth.{never}
 use Rattle.strict.specs.Book.{Book, heldBy}
+use Rattle.strict.specs.Commutativity.{Signature}
 use Rattle.strict.specs.Operations.{begun}
 use Rattle.strict.specs.Theorems.{first-holder}
 use Rattle.strict.specs.declared.Procedure.{Procedure}
@@ -52,11 +53,11 @@ held-none rule m job p (k ∷ ks) e =
     let h = first-none (heldBy rule m job p k) (firstHeld rule m job p ks) e in
     (h .0, held-none rule m job p ks (h .1))
 
-held-first : (rule : Rule) (m : Book) (job : ℕ) (p : Procedure) (ks : List ℕ) (i : ℕ) → firstHeld rule m job p ks ≡ some i → FirstHeld rule m job p ks i
+held-first : (rule : Rule) (m : Book) (job : ℕ) (p : Procedure) (ks : List ℕ) (i : Signature) → firstHeld rule m job p ks ≡ some i → FirstHeld rule m job p ks i
 held-first rule m job p [] i e = absurd (let z : _≡_ {A = ℕ} 0 1 = cc in omega arith)
 held-first rule m job p (k ∷ ks) i e = go (heldBy rule m job p k) refl e (held-first rule m job p ks i)
   where
-    go : (o : Option ℕ) → heldBy rule m job p k ≡ o → firstOf o (firstHeld rule m job p ks) ≡ some i
+    go : (o : Option Signature) → heldBy rule m job p k ≡ o → firstOf o (firstHeld rule m job p ks) ≡ some i
         → (firstHeld rule m job p ks ≡ some i → FirstHeld rule m job p ks i) → FirstHeld rule m job p (k ∷ ks) i
     go (some j) q e ih =
         record {
@@ -78,7 +79,7 @@ held-first rule m job p (k ∷ ks) i e = go (heldBy rule m job p k) refl e (held
           held-there = f .held-there;
         }
 
-first-held : (rule : Rule) (m : Book) (job : ℕ) (p : Procedure) (ks : List ℕ) (i : ℕ) → FirstHeld rule m job p ks i → firstHeld rule m job p ks ≡ some i
+first-held : (rule : Rule) (m : Book) (job : ℕ) (p : Procedure) (ks : List ℕ) (i : Signature) → FirstHeld rule m job p ks i → firstHeld rule m job p ks ≡ some i
 first-held rule m job p ks i f =
     ap (λ l. firstHeld rule m job p l) (f .placed-so)
     ∙ go (f .earlier) (f .none-earlier) (first-holder rule (begun job p (f .tile) (m .tiles)) (m .table) i .1 (f .held-there))
@@ -129,7 +130,7 @@ room-first r a b c =
       (λ e. let x = nine .0 e in (x .0 .0, x .0 .1 .0, x .1), λ x. nine .1 ((x .0, (x .1, tt)), x .2)),
     )
 
-module _ (w : World) (job : ℕ) (change : Change) (r : Rectangle) where
+module _ (w : World) (job sheet : ℕ) (change : Change) (r : Rectangle) where
   abbrev p : Procedure
   p = procedureFor change
 
@@ -140,7 +141,7 @@ module _ (w : World) (job : ℕ) (change : Change) (r : Rectangle) where
   rule = w .session .rule
 
   abbrev told : Told
-  told = rectangleCall w job change r .told
+  told = rectangleCall w job sheet change r .told
 
   -- 1, 2, 3; and then 14, 5 and 13
   abbrev three : List Refusal
@@ -179,7 +180,7 @@ module _ (w : World) (job : ℕ) (change : Change) (r : Rectangle) where
       (omega arith, (omega arith, (omega arith, (omega arith, last-others 2 (omega arith) (omega arith) (omega arith) (omega arith))))) (omega arith) in
       let three = told-exactly 3 (a ∷ b ∷ []) c later (covered r) (omega arith, (omega arith, tt)) refl
       (omega arith, (omega arith, (omega arith, last-others 3 (omega arith) (omega arith) (omega arith) (omega arith)))) (omega arith) in
-      let t = ap (λ (t : Told). t .number) (rectangle-told w job change r) in (
+      let t = ap (λ (t : Told). t .number) (rectangle-told w job sheet change r) in (
         (λ e. not-true _ (one .0 (sym t ∙ e) .1), λ e. t ∙ one .1 (tt, ap not e)),
         (
           λ e. let x = two .0 (sym t ∙ e) in (not-false _ (x .0 .0), ltb-true lastJob job (x .1)),
@@ -197,7 +198,7 @@ module _ (w : World) (job : ℕ) (change : Change) (r : Rectangle) where
       (omega arith, (omega arith, (omega arith, tt))) refl (omega arith, (omega arith, last-others 14 (omega arith) (omega arith) (omega arith) (omega arith))) (omega arith) in
       let y = serves-then [] in
       let n = no-edition (r .edition) in
-      let t = ap (λ (t : Told). t .number) (rectangle-told w job change r) in (
+      let t = ap (λ (t : Told). t .number) (rectangle-told w job sheet change r) in (
         λ e. let c = x .0 (sym t ∙ e) in let m = n .0 (not-true _ (c .1)) in (y .0 (c .0) .0, m .0, m .1),
         λ c. t ∙ x .1 (y .1 (c .0, tt), ap not (n .1 (c .1, c .2))),
       )
@@ -207,7 +208,7 @@ module _ (w : World) (job : ℕ) (change : Change) (r : Rectangle) where
       let x = told-exactly 5 four (refuse 5 (outOfRange r)) (refuse 13 (misshapen r) ∷ listRefusals w job p ks) (covered r)
       (omega arith, (omega arith, (omega arith, (omega arith, tt)))) refl (omega arith, last-others 5 (omega arith) (omega arith) (omega arith) (omega arith)) (omega arith) in
       let y = serves-then (refuse 14 (misnamed r) ∷ []) in
-      let t = ap (λ (t : Told). t .number) (rectangle-told w job change r) in (
+      let t = ap (λ (t : Told). t .number) (rectangle-told w job sheet change r) in (
         λ e. let c = x .0 (sym t ∙ e) in let z = y .0 (c .0) in (z .0, not-false _ (z .1 .0), c .1),
         λ c. t ∙ x .1 (y .1 (c .0, (ap not (c .1), tt)), c .2),
       )
@@ -218,7 +219,7 @@ module _ (w : World) (job : ℕ) (change : Change) (r : Rectangle) where
       (omega arith, (omega arith, (omega arith, (omega arith, (omega arith, tt))))) refl (last-others 13 (omega arith) (omega arith) (omega arith) (omega arith)) (omega arith) in
       let y = serves-then (refuse 14 (misnamed r) ∷ refuse 5 (outOfRange r) ∷ []) in
       let m = misshapen-is r in
-      let t = ap (λ (t : Told). t .number) (rectangle-told w job change r) in (
+      let t = ap (λ (t : Told). t .number) (rectangle-told w job sheet change r) in (
         λ e. let c = x .0 (sym t ∙ e) in let z = y .0 (c .0) in (z .0, not-false _ (z .1 .0), z .1 .1 .0, m .0 (c .1)),
         λ c. t ∙ x .1 (y .1 (c .0, (ap not (c .1), (c .2, tt))), m .1 (c .3)),
       )
@@ -235,20 +236,20 @@ module _ (w : World) (job : ℕ) (change : Change) (r : Rectangle) where
       let o = firstHeld rule (state w .book) job p ks in
       let x = told-exactly 6 six (refuseHeld o) (roomRefusals (fewPlaces w job p ks) (fewSlots w ks) (fewBytes w ks)) (covered r)
       (omega arith, (omega arith, (omega arith, (omega arith, (omega arith, (omega arith, tt)))))) (held-six o) (omega arith, (omega arith, (omega arith, tt))) (omega arith) in
-      let t = ap (λ (t : Told). t .number) (rectangle-told w job change r) in
+      let t = ap (λ (t : Told). t .number) (rectangle-told w job sheet change r) in
       let f = found-is o in (
         λ e. let c = x .0 (sym t ∙ e) in let s = shaped-is .0 (c .0) in (s .0, s .1, f .0 (c .1)),
         λ c. t ∙ x .1 (shaped-is .1 (c .0, c .1), f .1 (c .2)),
       )
 
-  pub told-held : (i : ℕ) → (told ≡ toldHeld i) ↔ (Serves w job × Shaped r × FirstHeld rule (state w .book) job p ks i)
+  pub told-held : (i : Signature) → (told ≡ toldHeld i) ↔ (Serves w job × Shaped r × FirstHeld rule (state w .book) job p ks i)
   told-held i =
       let m = state w .book in
       let o = firstHeld rule m job p ks in
       let rest = roomRefusals (fewPlaces w job p ks) (fewSlots w ks) (fewBytes w ks) in
       let x = told-exactly 6 six (refuseHeld o) rest (covered r)
       (omega arith, (omega arith, (omega arith, (omega arith, (omega arith, (omega arith, tt)))))) (held-six o) (omega arith, (omega arith, (omega arith, tt))) (omega arith) in
-      let t = rectangle-told w job change r in (
+      let t = rectangle-told w job sheet change r in (
         λ e. let c = x .0 (ap (λ (t : Told). t .number) (sym t ∙ e)) in
             let s = shaped-is .0 (c .0) in
             (s .0, s .1, held-first rule m job p ks i (holder-told o i (c .1) (sym (told-whole six (refuseHeld o) rest (covered r) (c .0) (c .1)) ∙ sym t ∙ e))),
@@ -260,10 +261,10 @@ module _ (w : World) (job : ℕ) (change : Change) (r : Rectangle) where
   -- where no tile of the list is held, 7, 8 and 9 are what is left
   module _ (ready : Serves w job) (shaped : Shaped r) (unheld : All (λ k. heldBy rule (state w .book) job p k ≡ none) ks) (full : length (w .session .marks) ≡ 64) where
     abbrev places : Bool
-    places = placesRunOut rule (length (w .tiles)) (state w .book) job p ks
+    places = placesRunOut rule (length (w .tiles)) (state w .book) job sheet p ks
 
     abbrev slots : Bool
-    slots = slotsRunOut (length (w .operations)) (state w .book) job p ks
+    slots = slotsRunOut (length (w .operations)) (state w .book) job sheet p ks
 
     abbrev bytes : Bool
     bytes = bytesRunOut (freeBytes w) (openMarks (w .session .marks)) ks
@@ -273,10 +274,10 @@ module _ (w : World) (job : ℕ) (change : Change) (r : Rectangle) where
         let m = state w .book in
         let o = sound-is w (ready .is-sound-there) in
         let s = tabled-stands w full (o .tables) in
-        let a = places-run-out rule job p (length (w .tiles)) ks m (all-apart r shaped) (s .ascending) (s .room) in
-        let b = slots-run-out rule job p (length (w .operations)) ks m (s .fits) in
+        let a = places-run-out rule job sheet p (length (w .tiles)) ks m (all-apart r shaped) (s .ascending) (s .room) in
+        let b = slots-run-out rule job sheet p (length (w .operations)) ks m (s .fits) in
         let c = bytes-run-out (freeBytes w) (openMarks (w .session .marks)) ks (o .ends-fit) in
-        ap (λ (t : Told). t .number) (rectangle-told w job change r)
+        ap (λ (t : Told). t .number) (rectangle-told w job sheet change r)
         ∙ passed-by six (listRefusals w job p ks) (covered r) (shaped-is .1 (ready, shaped))
         ∙ ap (λ q. decided (refuseHeld q ∷ roomRefusals (fewPlaces w job p ks) (fewSlots w ks) (fewBytes w ks)) (covered r) .number) (none-held rule m job p ks unheld)
         ∙ sym (λ i. decided (roomRefusals (a i) (b i) (c i)) (covered r) .number)

@@ -33,19 +33,19 @@ all-keep w v [] h d = h
 all-keep w v (c ∷ cs) h d = all-keep w (call v c .after) cs (keeps-on h (accepted-keeps v c (h .all-marks) (d .0))) (d .1)
 
 -- an insert and a delete answer ok
-module _ (job : ℕ) (change : Change) where
-  answers-ok : (w : World) (a : Address) → answerTo (state w) (event (operating job (procedureFor change) a)) ≡ true
+module _ (job sheet : ℕ) (change : Change) where
+  answers-ok : (w : World) (a : Address) → answerTo (state w) (event (operating job sheet (procedureFor change) a)) ≡ true
   answers-ok w a = go change
     where
-      go : (change : Change) → answerTo (state w) (event (operating job (procedureFor change) a)) ≡ true
+      go : (change : Change) → answerTo (state w) (event (operating job sheet (procedureFor change) a)) ≡ true
       go Insert = refl
       go Delete = refl
 
-  pub all-write : (w : World) (xs : List Address) → length (w .session .marks) ≡ 64 → AllDone w (operations job (procedureFor change) xs)
-      → usedJournal (leftBy w (operations job (procedureFor change) xs)) ≡ usedJournal w ++ recordsOf job (procedureFor change) xs
+  pub all-write : (w : World) (xs : List Address) → length (w .session .marks) ≡ 64 → AllDone w (operations job sheet (procedureFor change) xs)
+      → usedJournal (leftBy w (operations job sheet (procedureFor change) xs)) ≡ usedJournal w ++ recordsOf job sheet (procedureFor change) xs
   all-write w [] full d = sym (append-nil (usedJournal w))
   all-write w (a ∷ xs) full d =
-      let c = operating job (procedureFor change) a in
+      let c = operating job sheet (procedureFor change) a in
       let k = accepted-keeps w c full (d .0) in
       let bytes = encode (recordOf (event c) true) in
       let first : usedJournal (call w c .after) ≡ usedJournal w ++ bytes =
@@ -53,5 +53,5 @@ module _ (job : ℕ) (change : Change) where
       ∙ carried-journal w (event c) full (passes w c (passed w c (d .0)))
       ∙ ap (λ b. usedJournal w ++ encode (recordOf (event c) b)) (answers-ok w a) in
       all-write (call w c .after) xs (k .all-marks) (d .1)
-      ∙ ap (λ l. l ++ recordsOf job (procedureFor change) xs) first
-      ∙ append-assoc (usedJournal w) bytes (recordsOf job (procedureFor change) xs)
+      ∙ ap (λ l. l ++ recordsOf job sheet (procedureFor change) xs) first
+      ∙ append-assoc (usedJournal w) bytes (recordsOf job sheet (procedureFor change) xs)

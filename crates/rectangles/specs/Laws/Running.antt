@@ -12,7 +12,7 @@ use Rattle.strict.specs.Book.{Book, needsPlace, spokenFor, step}
 use Rattle.strict.specs.Histories.{operation}
 use Rattle.strict.specs.Laws.Members.{ascending-apply}
 use Rattle.strict.specs.Laws.Room.{room-operation}
-use Rattle.strict.specs.Operations.{begun, effect}
+use Rattle.strict.specs.Operations.{begun, effect, ofSheet}
 use Rattle.strict.specs.Tiles.{Ascending}
 use Rattle.strict.specs.declared.Procedure.{Procedure}
 use Rattle.strict.specs.declared.Rule.{Rule}
@@ -35,30 +35,30 @@ places-turn b n places more rest l ih = go (b && eqb n places) refl
         sym (lt-ltb places (n + (oneIf b + more)) (omega arith))
     go false e = ih (room-left b places n e l)
 
-module _ (rule : Rule) (job : ℕ) (p : Procedure) where
+module _ (rule : Rule) (job sheet : ℕ) (p : Procedure) where
   pub places-run-out : (places : ℕ) (ks : List ℕ) (m : Book) → Apart ks → Ascending (m .tiles) → spokenFor rule m ≤ places
-      → placesRunOut rule places m job p ks ≡ ltb places (spokenFor rule m + needed rule m job p ks)
+      → placesRunOut rule places m job sheet p ks ≡ ltb places (spokenFor rule m + needed rule m job p ks)
   places-run-out places [] m apart asc l = sym (le-ltb places (spokenFor rule m + 0) (omega arith))
   places-run-out places (k ∷ ks) m apart asc l =
-      let n = step m (operation job p k) in
-      let grown = room-operation rule m job p k asc in
-      let same = needed-same rule m job p k ks (apart .0) in
-      places-turn (needsPlace rule (m .table) (begun job p k (m .tiles))) (spokenFor rule m) places (needed rule m job p ks) (placesRunOut rule places n job p ks) l
+      let n = step m (operation job sheet p k) in
+      let grown = room-operation rule m job sheet p k asc in
+      let same = needed-same rule m job sheet p k ks (apart .0) in
+      places-turn (needsPlace rule (m .table) (begun job p k (m .tiles))) (spokenFor rule m) places (needed rule m job p ks) (placesRunOut rule places n job sheet p ks) l
       (λ f.
       places-run-out places ks n (apart .1) (ascending-apply (effect p) k (m .tiles) asc) (omega arith)
       ∙ ap (λ x. ltb places x) (omega arith))
 
   pub slots-run-out : (slots : ℕ) (ks : List ℕ) (m : Book) → length (m .table) ≤ slots
-      → slotsRunOut slots m job p ks ≡ ltb slots (length (m .table) + length ks)
+      → slotsRunOut slots m job sheet p ks ≡ ltb slots (length (m .table) + length ks)
   slots-run-out slots [] m l = sym (le-ltb slots (length (m .table) + 0) (omega arith))
   slots-run-out slots (k ∷ ks) m l =
-      let g = length-append (m .table) (begun job p k (m .tiles) ∷ []) in
+      let g = length-append (m .table) (ofSheet sheet (begun job p k (m .tiles)) ∷ []) in
       go (eqb (length (m .table)) slots) refl
-      (λ f. slots-run-out slots ks (step m (operation job p k)) (omega arith) ∙ ap (λ x. ltb slots x) (omega arith))
+      (λ f. slots-run-out slots ks (step m (operation job sheet p k)) (omega arith) ∙ ap (λ x. ltb slots x) (omega arith))
     where
       go : (c : Bool) → eqb (length (m .table)) slots ≡ c
-          → (suc (length (m .table)) ≤ slots → slotsRunOut slots (step m (operation job p k)) job p ks ≡ ltb slots (length (m .table) + suc (length ks)))
-          → c || slotsRunOut slots (step m (operation job p k)) job p ks ≡ ltb slots (length (m .table) + suc (length ks))
+          → (suc (length (m .table)) ≤ slots → slotsRunOut slots (step m (operation job sheet p k)) job sheet p ks ≡ ltb slots (length (m .table) + suc (length ks)))
+          → c || slotsRunOut slots (step m (operation job sheet p k)) job sheet p ks ≡ ltb slots (length (m .table) + suc (length ks))
       go true e ih = let q = eqb-true (length (m .table)) slots e in sym (lt-ltb slots (length (m .table) + suc (length ks)) (omega arith))
       go false e ih = let q : length (m .table) ≡ slots → ⊥ = eqb-false (length (m .table)) slots e in ih (omega arith)
 

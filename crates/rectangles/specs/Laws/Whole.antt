@@ -12,6 +12,7 @@ use lib.IntN.{pos, ℤ}
 use lib.ListN.{length}
 use borrow.Author.Tests.{le-ltb, ltb-false, not-false}
 use Rattle.lists.specs.Lists.{All}
+use Rattle.strict.specs.Commutativity.{Signature}
 use Rattle.strict.specs.Strict.{Log}
 use Rattle.strict.specs.Tiles.{member}
 use Rattle.strict.specs.declared.Procedure.{Procedure}
@@ -37,39 +38,39 @@ pub numbered-rectangle : (w : World) (job : ℕ) (p : Procedure) (r : Rectangle)
 numbered-rectangle w job p r =
     (refl, (refl, (refl, (refl, (refl, (refl, (held-numbered (firstHeld (w .session .rule) (state w .book) job p (keys (listed r))), (refl, (refl, (refl, tt))))))))))
 
-module _ (w : World) (job : ℕ) (change : Change) (r : Rectangle) where
+module _ (w : World) (job sheet : ℕ) (change : Change) (r : Rectangle) where
   abbrev p : Procedure
   p = procedureFor change
 
-  pub rectangle-told : rectangleCall w job change r .told ≡ decided (rectangleRefusals w job p r) (covered r)
+  pub rectangle-told : rectangleCall w job sheet change r .told ≡ decided (rectangleRefusals w job p r) (covered r)
   unfolding rectangleCall
   rectangle-told = refl
 
-  pub tells-turns : TellsTurns (rectangleCall w job change r .told) (turnsOf (r .west) (2 ^ (r .zoom))) (turnsOf (r .east) (2 ^ (r .zoom)))
+  pub tells-turns : TellsTurns (rectangleCall w job sheet change r .told) (turnsOf (r .west) (2 ^ (r .zoom))) (turnsOf (r .east) (2 ^ (r .zoom)))
   unfolding rectangleCall
   tells-turns = decided-tells (rectangleRefusals w job p r) (covered r) (numbered-rectangle w job p r) turnless refl
     where
       zeros : (_≡_ {A = ℤ} (pos 0) (pos 0)) × (_≡_ {A = ℤ} (pos 0) (pos 0))
       zeros = (refl, refl)
 
-      held : Option ℕ
+      held : Option Signature
       held = firstHeld (w .session .rule) (state w .book) job p (keys (listed r))
 
       turnless : Turnless (rectangleRefusals w job p r)
       turnless = (zeros, (zeros, (zeros, (zeros, (zeros, (zeros, (held-turnless held, (zeros, (zeros, (zeros, tt))))))))))
 
-  held-among : (o : Option ℕ) → member (refuseHeld o .says .number) refusingRectangle ≡ true
+  held-among : (o : Option Signature) → member (refuseHeld o .says .number) refusingRectangle ≡ true
   held-among none = refl
   held-among (some j) = refl
 
-  pub told-among : rectangleCall w job change r .told .number ≢ 0 → member (rectangleCall w job change r .told .number) refusingRectangle ≡ true
+  pub told-among : rectangleCall w job sheet change r .told .number ≢ 0 → member (rectangleCall w job sheet change r .told .number) refusingRectangle ≡ true
   unfolding rectangleCall
   told-among =
       decided-among refusingRectangle (rectangleRefusals w job p r) (covered r)
       (refl, (refl, (refl, (refl, (refl, (refl, (held-among (firstHeld (w .session .rule) (state w .book) job p (keys (listed r))), (refl, (refl, (refl, tt)))))))))) refl
 
   -- told 0 is that no refusal applies
-  pub rectangle-accepted : (rectangleCall w job change r .told .number ≡ 0) ↔ Passed (rectangleRefusals w job p r)
+  pub rectangle-accepted : (rectangleCall w job sheet change r .told .number ≡ 0) ↔ Passed (rectangleRefusals w job p r)
   unfolding rectangleCall
   rectangle-accepted = told-zero (rectangleRefusals w job p r) (covered r) (numbered-rectangle w job p r) refl
 
@@ -79,7 +80,7 @@ module _ (w : World) (job : ℕ) (change : Change) (r : Rectangle) where
     shaped : Shaped r
     whole-list : Passed (listRefusals w job p (keys (listed r)))
 
-  accepted-is : (rectangleCall w job change r .told .number ≡ 0) ↔ Accepted
+  accepted-is : (rectangleCall w job sheet change r .told .number ≡ 0) ↔ Accepted
   accepted-is =
       let v = serves-is w job in (
         λ ok. let h = rectangle-accepted .0 ok in
@@ -92,18 +93,18 @@ module _ (w : World) (job : ℕ) (change : Change) (r : Rectangle) where
             rectangle-accepted .1 (h .0, (h .1 .0, (h .1 .1 .0, (ap not (c .shaped .of-edition), (c .shaped .in-range, (c .shaped .well-formed, c .whole-list)))))),
       )
 
-  pub done-shaped : rectangleCall w job change r .told .number ≡ 0 → Shaped r
+  pub done-shaped : rectangleCall w job sheet change r .told .number ≡ 0 → Shaped r
   done-shaped ok = accepted-is .0 ok .shaped
 
-  pub rectangle-serves : rectangleCall w job change r .told .number ≡ 0 → Serves w job
+  pub rectangle-serves : rectangleCall w job sheet change r .told .number ≡ 0 → Serves w job
   rectangle-serves ok = accepted-is .0 ok .serves
 
   -- and what it leaves
-  left-carried-all : rectangleCall w job change r .told .number ≡ 0 → rectangleCall w job change r .after ≡ carriedAll w job p (keys (listed r))
+  left-carried-all : rectangleCall w job sheet change r .told .number ≡ 0 → rectangleCall w job sheet change r .after ≡ carriedAll w job sheet p (keys (listed r))
   unfolding rectangleCall
-  left-carried-all ok = ap (λ n. cond (eqb n 0) (carriedAll w job p (keys (listed r))) w) ok
+  left-carried-all ok = ap (λ n. cond (eqb n 0) (carriedAll w job sheet p (keys (listed r))) w) ok
 
-  pub passed-fits : rectangleCall w job change r .told .number ≡ 0 → Fits w job p (keys (listed r))
+  pub passed-fits : rectangleCall w job sheet change r .told .number ≡ 0 → Fits w job p (keys (listed r))
   passed-fits ok =
       let l = accepted-is .0 ok .whole-list in
       record {
@@ -114,7 +115,7 @@ module _ (w : World) (job : ℕ) (change : Change) (r : Rectangle) where
         bytes = ltb-false _ _ (l .1 .1 .1 .0);
       }
 
-  pub fits-passed : Shaped r → Fits w job p (keys (listed r)) → rectangleCall w job change r .told .number ≡ 0
+  pub fits-passed : Shaped r → Fits w job p (keys (listed r)) → rectangleCall w job sheet change r .told .number ≡ 0
   fits-passed s f =
       accepted-is .1 (record {
         serves = f .ready;
@@ -124,22 +125,22 @@ module _ (w : World) (job : ℕ) (change : Change) (r : Rectangle) where
 
   module _ (full : length (w .session .marks) ≡ 64) (s : Shaped r) where
     -- the list has a first tile
-    not-empty : AllDone w (callsOf job change r) → Serves w job
+    not-empty : AllDone w (callsOf job sheet change r) → Serves w job
     not-empty = go (area r) (mul-le-mul (extent r s .wide) (extent r s .tall))
       where
-        go : (n : ℕ) → 1 ≤ n → AllDone w (operations job p (sequence (tileAt r) 0 n)) → Serves w job
+        go : (n : ℕ) → 1 ≤ n → AllDone w (operations job sheet p (sequence (tileAt r) 0 n)) → Serves w job
         go zero l d = absurd (omega arith)
-        go (suc n) l d = done-ready w job p (tileAt r 0) (d .0)
+        go (suc n) l d = done-ready w job sheet p (tileAt r 0) (d .0)
 
-    pub whole-done : (rectangleCall w job change r .told .number ≡ 0) ↔ AllDone w (callsOf job change r)
+    pub whole-done : (rectangleCall w job sheet change r .told .number ≡ 0) ↔ AllDone w (callsOf job sheet change r)
     whole-done = (
-      λ ok. fits-done job p (listed r) w (all-apart r s) (all-placed r s) full (passed-fits ok) .0,
-      λ d. fits-passed s (done-fits job p (listed r) w (all-apart r s) full (not-empty d) d),
+      λ ok. fits-done job sheet p (listed r) w (all-apart r s) (all-placed r s) full (passed-fits ok) .0,
+      λ d. fits-passed s (done-fits job sheet p (listed r) w (all-apart r s) full (not-empty d) d),
     )
 
-    pub whole-leaves : rectangleCall w job change r .told .number ≡ 0 → rectangleCall w job change r .after ≡ leftBy w (callsOf job change r)
+    pub whole-leaves : rectangleCall w job sheet change r .told .number ≡ 0 → rectangleCall w job sheet change r .after ≡ leftBy w (callsOf job sheet change r)
     whole-leaves ok =
-        left-carried-all ok ∙ sym (fits-done job p (listed r) w (all-apart r s) (all-placed r s) full (passed-fits ok) .1)
+        left-carried-all ok ∙ sym (fits-done job sheet p (listed r) w (all-apart r s) (all-placed r s) full (passed-fits ok) .1)
 
 -- WRITTEN OUT
 module _ {by : Rule} {tiles : List ℕ} {count : ℕ} {operations journal : List ℕ} where
@@ -151,9 +152,9 @@ module _ {by : Rule} {tiles : List ℕ} {count : ℕ} {operations journal : List
   pub moves-written : {ms : Log Move} {w : World} → FromMoves by tiles count operations journal ms w → From by tiles count operations journal (written ms) w
   moves-written (starting e) = started e
   moves-written (went f (plain c) ok) = called (moves-written f) c ok
-  moves-written (went {ms = ms} {w = w} f (rectangle job change r) ok) =
+  moves-written (went {ms = ms} {w = w} f (rectangle job sheet change r) ok) =
       let g = moves-written f in
-      let s = done-shaped w job change r ok in
+      let s = done-shaped w job sheet change r ok in
       let full = all-marks g in
-      subst (From by tiles count operations journal (followed (written ms) (callsOf job change r))) (sym (whole-leaves w job change r full s ok))
-      (from-all (callsOf job change r) g (whole-done w job change r full s .0 ok))
+      subst (From by tiles count operations journal (followed (written ms) (callsOf job sheet change r))) (sym (whole-leaves w job sheet change r full s ok))
+      (from-all (callsOf job sheet change r) g (whole-done w job sheet change r full s .0 ok))

@@ -13,7 +13,7 @@ use borrow.Author.Tests.{eq-eqb, eqb-false, eqb-true, le-ltb, lt-ltb, ltb-false,
 use Rattle.lists.specs.Lists.{All}
 use Rattle.lists.specs.Truth.{and-both, both, never}
 use Rattle.strict.specs.Book.{deleted, heldBy, needsPlace, spokenFor}
-use Rattle.strict.specs.Commutativity.{FirstHolder, holder, holds}
+use Rattle.strict.specs.Commutativity.{FirstHolder, Signature, holder, signatureOf, holds}
 use Rattle.strict.specs.Histories.{operation}
 use Rattle.strict.specs.Operations.{Op, begun, kind}
 use Rattle.strict.specs.Theorems.{first-holder}
@@ -37,7 +37,7 @@ use Rattle.service.specs.declared.Address.{Address}
 use Rattle.service.specs.declared.Told.{Told}
 
 -- THE LAST FOUR TESTS, in their order: whether there is a holder, and three that are true or not
-module _ (o : Option ℕ) (b₇ b₈ b₉ : Bool) (t : Told) (z : t .number ≡ 0) where
+module _ (o : Option Signature) (b₇ b₈ b₉ : Bool) (t : Told) (z : t .number ≡ 0) where
   abbrev tests : List Refusal
   tests = refuseHeld o ∷ refuse 7 b₇ ∷ refuse 8 b₈ ∷ refuse 9 b₉ ∷ []
 
@@ -72,7 +72,7 @@ module _ (o : Option ℕ) (b₇ b₈ b₉ : Bool) (t : Told) (z : t .number ≡ 
       let x = told-zero tests t (held-numbered o, (refl, (refl, (refl, tt)))) z in
       (λ e. let h = x .0 e in (not-held o (h .0), h .1 .0, h .1 .1 .0, h .1 .1 .1 .0), λ h. x .1 (free-is (h .0), (h .1, (h .2, (h .3, tt)))))
 
-  pub holder-first : (i : ℕ) → (decided tests t ≡ toldHeld i) ↔ (o ≡ some i)
+  pub holder-first : (i : Signature) → (decided tests t ≡ toldHeld i) ↔ (o ≡ some i)
   holder-first i =
       let whole = told-whole [] (refuseHeld o) (refuse 7 b₇ ∷ refuse 8 b₈ ∷ refuse 9 b₉ ∷ []) t tt in (
         λ e. let a = found-is o .1 (six-first .0 (ap (λ (x : Told). x .number) e)) in holder-told o i a (sym (whole a) ∙ e),
@@ -94,15 +94,15 @@ holder-other marks o [] h = (λ f. f refl, λ c. absurd c)
 holder-other marks o (e ∷ es) h = go (holds Together o (opIn e)) refl (holder-other marks o es (h .1))
   where
     go : (b : Bool) → holds Together o (opIn e) ≡ b → (holder Together o (map opIn es) ≢ none) ↔ ChangedByOther (o .job) (o .key) es
-        → (cond b (some (jobIn e)) (holder Together o (map opIn es)) ≢ none) ↔ ChangedByOther (o .job) (o .key) (e ∷ es)
-    go true q ih = (λ f. inl (holds-other marks o e (h .0) .0 q), λ c. some-not-none (jobIn e))
+        → (cond b (some (signatureOf (opIn e))) (holder Together o (map opIn es)) ≢ none) ↔ ChangedByOther (o .job) (o .key) (e ∷ es)
+    go true q ih = (λ f. inl (holds-other marks o e (h .0) .0 q), λ c. some-not-none (signatureOf (opIn e)))
     go false q ih = (
       λ f. inr (ih .0 f),
       λ c. ⊎-elim (λ (x : (jobIn e ≢ o .job) × (changing (kindIn e) ≡ true) × (o .key ≡ keyIn e)). absurd (never (sym (holds-other marks o e (h .0) .1 x) ∙ q)))
           (λ (x : ChangedByOther (o .job) (o .key) es). ih .1 x) c,
     )
 
-nobody : (o : Option ℕ) → ((o ≡ none → ⊥) → ⊥) → o ≡ none
+nobody : (o : Option Signature) → ((o ≡ none → ⊥) → ⊥) → o ≡ none
 nobody none f = refl
 nobody (some i) f = absurd (f (some-not-none i))
 
@@ -117,9 +117,9 @@ place-wanted Mem true d = (λ e. never (sym e), λ c. never (c .1))
 place-wanted Mem false d = (λ e. never (sym e), λ c. never (sym (ap (λ q. eqb (kind q false) 1) (c .0))))
 
 -- PAST THE FIRST FIVE: 1, 2, 3, 14 and 5
-module _ (w : World) (job : ℕ) (p : Procedure) (a : Address) (k : ℕ) (v : Serves w job) (has-key : keyOf a ≡ some k) where
+module _ (w : World) (job sheet : ℕ) (p : Procedure) (a : Address) (k : ℕ) (v : Serves w job) (has-key : keyOf a ≡ some k) where
   abbrev number : ℕ
-  number = operationCall w job p a .told .number
+  number = operationCall w job sheet p a .told .number
 
   -- the four tests of the operation
   abbrev full : Bool
@@ -132,9 +132,9 @@ module _ (w : World) (job : ℕ) (p : Procedure) (a : Address) (k : ℕ) (v : Se
   byteless = ltb (freeBytes w) (operationBytes w)
 
   abbrev answered : Told
-  answered = done (answerTo (state w) (operation job p k)) (addressCall a .turns)
+  answered = done (answerTo (state w) (operation job sheet p k)) (addressCall a .turns)
 
-  told-is : operationCall w job p a .told ≡ decided (keyedRefusals w job p k) answered
+  told-is : operationCall w job sheet p a .told ≡ decided (keyedRefusals w job p k) answered
   unfolding concluded
   told-is = rw (v .is-sound-there, le-ltb lastJob job (v .small), v .is-open, keyed-edition a k has-key .0, has-key)
 
@@ -164,7 +164,7 @@ module _ (w : World) (job : ℕ) (p : Procedure) (a : Address) (k : ℕ) (v : Se
       (λ e. let d : length (state w .book .table) ≢ length (w .operations) = eqb-false _ _ e in omega arith, λ l. let d : length (state w .book .table) ≢ length (w .operations) = λ e. omega arith in ne-eqb _ _ d)
 
   -- 6, with its job, just where the table has a first holder
-  pub held-names : (i : ℕ) → (operationCall w job p a .told ≡ toldHeld i)
+  pub held-names : (i : Signature) → (operationCall w job sheet p a .told ≡ toldHeld i)
       ↔ FirstHolder (w .session .rule) (begun job p k (usedTiles w)) (state w .book .table) i
   held-names i =
       let first = first-holder (w .session .rule) (begun job p k (usedTiles w)) (state w .book .table) i in

@@ -9,6 +9,7 @@ use native.Mathlib.Omega.{arith}
 use lib.Dec.{eqb}
 use Rattle.lists.specs.Lists.{All}
 use Rattle.lists.specs.Truth.{both-false, never, or-left, or-right}
+use Rattle.strict.specs.Commutativity.{Signature}
 use Rattle.strict.specs.Tiles.{member}
 use Rattle.service.specs.Told.{Refusal, decided, refuseHeld, refused, toldHeld}
 use Rattle.service.specs.declared.Told.{Told}
@@ -26,24 +27,24 @@ none-applies [] h = refl
 none-applies (r ∷ rs) h = both-false (h .0) (none-applies rs (h .1))
 
 -- THE HOLDER
-pub not-held : (o : Option ℕ) → refuseHeld o .applies ≡ false → o ≡ none
+pub not-held : (o : Option Signature) → refuseHeld o .applies ≡ false → o ≡ none
 not-held none e = refl
 not-held (some j) e = never e
 
-pub held-six : (o : Option ℕ) → refuseHeld o .says .number ≡ 6
+pub held-six : (o : Option Signature) → refuseHeld o .says .number ≡ 6
 held-six none = refl
 held-six (some j) = refl
 
-pub some-not-none : (i : ℕ) → some i ≡ none → ⊥
+pub some-not-none : {A : Type 0} (i : A) → some i ≡ none → ⊥
 some-not-none i e = let z : _≡_ {A = ℕ} 0 1 = cc in omega arith
 
-pub found-is : (o : Option ℕ) → (refuseHeld o .applies ≡ true) ↔ (o ≢ none)
+pub found-is : (o : Option Signature) → (refuseHeld o .applies ≡ true) ↔ (o ≢ none)
 found-is none = (λ e. never (sym e), λ f. absurd (f refl))
 found-is (some j) = (λ e. some-not-none j, λ f. refl)
 
-pub holder-told : (o : Option ℕ) (i : ℕ) → refuseHeld o .applies ≡ true → refuseHeld o .says ≡ toldHeld i → o ≡ some i
-holder-told none i a e = never (sym a)
-holder-told (some j) i a e = ap (λ (t : Told). some (t .holder)) e
+pub holder-told : (o : Option Signature) (by : Signature) → refuseHeld o .applies ≡ true → refuseHeld o .says ≡ toldHeld by → o ≡ some by
+holder-told none by a e = never (sym a)
+holder-told (some j) by a e = ap (λ (t : Told). some (record { job = t .holder; sheet = t .sheet })) e
 
 -- THE NUMBERS OF A LIST
 abbrev pub numbers : List Refusal → List ℕ
@@ -54,7 +55,7 @@ numbers rs = map (λ r. r .says .number) rs
 abbrev pub Numbered : Refusal → Type 0
 Numbered r = eqb (r .says .number) 0 ≡ false
 
-pub held-numbered : (o : Option ℕ) → Numbered (refuseHeld o)
+pub held-numbered : (o : Option Signature) → Numbered (refuseHeld o)
 held-numbered none = refl
 held-numbered (some j) = refl
 
