@@ -16,6 +16,7 @@ use Rattle.service.specs.Laws.Storing.{padded-zeros}
 use Rattle.service.specs.Sound.{Tabled}
 use Rattle.service.specs.World.{World, state, usedOperations, usedTiles}
 use Rattle.strict.specs.Book.{besides, counted, heldBy, needsPlace, reserved, spokenFor}
+use Rattle.strict.specs.Commutativity.{Signature}
 use Rattle.strict.specs.Laws.Counted.{counted-few}
 use Rattle.strict.specs.Laws.Room.{room-either}
 use Rattle.strict.specs.Operations.{Op, begun}
@@ -62,7 +63,7 @@ module _ (w : World) (o : Tabled w) where
 
 -- each verdict
 module _ (places slots : ℕ) (s : State) (job : ℕ) (p : Procedure) (k : ℕ) where
-  abbrev pub theHolder : Option ℕ
+  abbrev pub theHolder : Option Signature
   theHolder = heldBy (s .rule) (s .book) job p k
 
   abbrev pub lacksPlace : Bool
@@ -71,7 +72,7 @@ module _ (places slots : ℕ) (s : State) (job : ℕ) (p : Procedure) (k : ℕ) 
   abbrev pub lacksSlot : Bool
   lacksSlot = eqb (length (s .book .table)) slots
 
-  pub held : (by : ℕ) → theHolder ≡ some by → Held by ≡ verdictOf places slots s job p k
+  pub held : (by : Signature) → theHolder ≡ some by → Held (by .job) (by .sheet) ≡ verdictOf places slots s job p k
   unfolding verdictOf
   held by h = rw h
 
@@ -91,7 +92,7 @@ module _ (places slots : ℕ) (s : State) (job : ℕ) (p : Procedure) (k : ℕ) 
 
   -- what a verdict means
   abbrev pub Means : Verdict → Type 0
-  Means (Held by) = theHolder ≡ some by
+  Means (Held holding sheet) = theHolder ≡ some (record { job = holding; sheet = sheet })
   Means NoTileRoom = (theHolder ≡ none) × (lacksPlace ≡ true)
   Means NoOperationRoom = (theHolder ≡ none) × (lacksPlace ≡ false) × (lacksSlot ≡ true)
   Means (Admitted x) = (theHolder ≡ none) × (lacksPlace ≡ false) × (lacksSlot ≡ false) × (x ≡ spotOf k (s .book .tiles))
@@ -100,7 +101,7 @@ module _ (places slots : ℕ) (s : State) (job : ℕ) (p : Procedure) (k : ℕ) 
   unfolding verdictOf
   verdict-means = go theHolder refl lacksPlace refl lacksSlot refl
     where
-      go : (o : Option ℕ) → theHolder ≡ o → (a : Bool) → lacksPlace ≡ a → (b : Bool) → lacksSlot ≡ b
+      go : (o : Option Signature) → theHolder ≡ o → (a : Bool) → lacksPlace ≡ a → (b : Bool) → lacksSlot ≡ b
           → Means (byHolder o (cond a NoTileRoom (cond b NoOperationRoom (Admitted (spotOf k (s .book .tiles))))))
       go (some by) x a y b z = x
       go none x true y b z = (x, y)

@@ -6,6 +6,7 @@ use lib.Dec.{eqb}
 use lib.ListN.{length}
 use Rattle.service.specs.Admission.{State}
 use Rattle.strict.specs.Book.{heldBy, needsPlace, spokenFor}
+use Rattle.strict.specs.Commutativity.{Signature}
 use Rattle.strict.specs.Operations.{begun}
 use Rattle.strict.specs.declared.Procedure.{Procedure}
 use Rattle.tiles.specs.Table.{spotOf}
@@ -13,8 +14,8 @@ use Rattle.admission.specs.declared.Verdict.the-variants.{Admitted, Held
 use Rattle.admission.specs.declared.Verdict.{Verdict}
 
 -- the holder is judged first, then tile room, then operation room
-abbrev pub byHolder : Option ℕ → Verdict → Verdict
-byHolder (some job) other = Held job
+abbrev pub byHolder : Option Signature → Verdict → Verdict
+byHolder (some by) other = Held (by .job) (by .sheet)
 byHolder none other = other
 
 unfoldable pub verdictOf : ℕ → ℕ → State → ℕ → Procedure → ℕ → Verdict

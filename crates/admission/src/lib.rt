@@ -18,7 +18,7 @@ use tiles::Spot;
 // Whether an operation is admitted, and what the search for its tile found; and if not, why.
 pub enum Verdict {
     Admitted(Spot),
-    Held(u8),
+    Held { job: u8, sheet: u16 },
     NoTileRoom,
     NoOperationRoom,
 }
@@ -102,7 +102,11 @@ pub fn admit(
     let kind = kind(procedure, spot.there);
     let holder = rules::first_holder(rule, operations, used, job, kind, key);
     if let Holder::At(place) = holder {
-        return Verdict::Held(layout::job_in(operations[place]));
+        let e = operations[place];
+        return Verdict::Held {
+            job: layout::job_in(e),
+            sheet: layout::sheet_in(e),
+        };
     }
     if lacks_place(session, tiles, operations, kind, key) {
         return Verdict::NoTileRoom;

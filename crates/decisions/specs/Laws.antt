@@ -87,8 +87,8 @@ module _ (w : World) (job : ℕ) (p : Procedure) (k : ℕ) where
   abbrev noBytes : Bool
   noBytes = ltb (freeBytes w) (operationSize + shortSize * openMarks (w .session .marks))
 
-  pub judges-held : (turns : ℤ) (by : ℕ) → Meaning (Held by) → Judges w job p k turns (Refuse (reply.Held by))
-  judges-held turns by h = (λ t. rw h, refl)
+  pub judges-held : (turns : ℤ) (by sheet : ℕ) → Meaning (Held by sheet) → Judges w job p k turns (Refuse (reply.Held by sheet))
+  judges-held turns by sheet h = (λ t. rw h, refl)
 
   pub judges-no-place : (turns : ℤ) → Meaning NoTileRoom → Judges w job p k turns (Refuse reply.NoTileRoom)
   judges-no-place turns h = (λ t. rw (h .0, h .1), refl)

@@ -34,6 +34,7 @@ fn bare_number(number: u8) -> Told
         number,
         answer: 0,
         holder: 0,
+        sheet: 0,
         turns: 0,
         last: 0,
     }
@@ -52,6 +53,7 @@ pub fn numbers(reply: Reply) -> Told
             number: 0,
             answer: answer as u8,
             holder: 0,
+            sheet: 0,
             turns,
             last,
         },
@@ -60,10 +62,11 @@ pub fn numbers(reply: Reply) -> Told
         Reply::NotOpen => bare_number(3),
         Reply::AlreadyOpen => bare_number(4),
         Reply::OutOfRange => bare_number(5),
-        Reply::Held(job) => Told {
+        Reply::Held { job, sheet } => Told {
             number: 6,
             answer: 0,
             holder: job,
+            sheet,
             turns: 0,
             last: 0,
         },
@@ -157,7 +160,7 @@ fn judge_keyed(
     ensures { λ r. ⌜ Judges (world session (now (tiles .entry)) (now (operations .entry)) (now (journal .entry))) job procedure key turns r ⌝ }
 {
     match admission::admit(session, tiles, operations, job, procedure, key) {
-        Verdict::Held(holder) => Decision::Refuse(Reply::Held(holder)),
+        Verdict::Held { job: by, sheet } => Decision::Refuse(Reply::Held { job: by, sheet }),
         Verdict::NoTileRoom => Decision::Refuse(Reply::NoTileRoom),
         Verdict::NoOperationRoom => Decision::Refuse(Reply::NoOperationRoom),
         Verdict::Admitted(spot) => {

@@ -10,7 +10,7 @@ use Rattle.lists.specs.Lists.{All, padded}
 use Rattle.lists.specs.Truth.{by-cond}
 use Rattle.strict.specs.Book.{others, recover}
 use Rattle.strict.specs.Histories.{Event, abort, commit, openJob, operation}
-use Rattle.strict.specs.Operations.{Op, apply, begun, clear, effect, kind, put, skip, undo}
+use Rattle.strict.specs.Operations.{Op, apply, begun, clear, effect, kind, ofSheet, put, skip, undo}
 use Rattle.strict.specs.Tiles.{delete, insertTile, member}
 use Rattle.strict.specs.declared.Procedure.{Procedure}
 use Rattle.strict.specs.declared.Rule.the-variants.{Together}
@@ -99,22 +99,22 @@ module _ (w : World) (o : Tabled w) where
         let t = recover-entries job (usedOperations w) (usedTiles w) i in
         world (closed (w .session) job (length t) (others-count i)) (padded (length (w .tiles)) t) (padded (length (w .operations)) (others-left i)) (w .journal)
 
-  module _ (job : ℕ) (p : Procedure) (key : ℕ) where
+  module _ (job sheet : ℕ) (p : Procedure) (key : ℕ) where
     abbrev new : ℕ
-    new = packEntry (kind p (member key (usedTiles w))) job key
+    new = packEntry sheet (kind p (member key (usedTiles w))) job key
 
     abbrev affected : List ℕ
     affected = apply (effect p) key (usedTiles w)
 
-    more-operations : map entryOf (map opIn (usedOperations w) ++ (begun job p key (usedTiles w) ∷ [])) ≡ usedOperations w ++ (new ∷ [])
+    more-operations : map entryOf (map opIn (usedOperations w) ++ (ofSheet sheet (begun job p key (usedTiles w)) ∷ [])) ≡ usedOperations w ++ (new ∷ [])
     more-operations =
-        entries-more (map opIn (usedOperations w)) (begun job p key (usedTiles w))
+        entries-more (map opIn (usedOperations w)) (ofSheet sheet (begun job p key (usedTiles w)))
         ∙ ap (λ l. l ++ (new ∷ [])) (entries-back (w .session .marks) (usedOperations w) (o .entries))
 
-    more-count : length (map opIn (usedOperations w) ++ (begun job p key (usedTiles w) ∷ [])) ≡ w .session .operations + 1
-    more-count = length-append (map opIn (usedOperations w)) (begun job p key (usedTiles w) ∷ []) ∙ ap (λ n. n + 1) (operations-count w o)
+    more-count : length (map opIn (usedOperations w) ++ (ofSheet sheet (begun job p key (usedTiles w)) ∷ [])) ≡ w .session .operations + 1
+    more-count = length-append (map opIn (usedOperations w)) (ofSheet sheet (begun job p key (usedTiles w)) ∷ []) ∙ ap (λ n. n + 1) (operations-count w o)
 
-    pub operation-form : withState w (perform (state w) (operation job p key))
+    pub operation-form : withState w (perform (state w) (operation job sheet p key))
         ≡ world (record { rule = w .session .rule; marks = w .session .marks; tiles = length affected; operations = w .session .operations + 1; journal = w .session .journal })
         (padded (length (w .tiles)) affected) (padded (length (w .operations)) (usedOperations w ++ (new ∷ []))) (w .journal)
     operation-form i =
@@ -127,24 +127,24 @@ module _ (w : World) (few : length (w .session .marks) ≡ 64) where
   stands-after : (e : Event) → Ready w e → Stands (length (w .tiles)) (length (w .operations)) (perform (state w) e)
   stands-after e r = stands-perform (length (w .tiles)) (length (w .operations)) (state w) (tabled-stands w few (r .tabled)) e (r .named) (r .unrefused-by)
 
-  module _ (job : ℕ) (p : Procedure) (key : ℕ) (r : Ready w (operation job p key)) where
+  module _ (job sheet : ℕ) (p : Procedure) (key : ℕ) (r : Ready w (operation job sheet p key)) where
     pub affected-fits : length (apply (effect p) key (usedTiles w)) ≤ length (w .tiles)
-    affected-fits = let room = stands-after (operation job p key) r .room in omega arith
+    affected-fits = let room = stands-after (operation job sheet p key) r .room in omega arith
 
     pub slot-free : w .session .operations < length (w .operations)
-    slot-free = let fits = stands-after (operation job p key) r .fits in omega (arith, more-count w (r .tabled) job p key)
+    slot-free = let fits = stands-after (operation job sheet p key) r .fits in omega (arith, more-count w (r .tabled) job sheet p key)
 
     pub performed : (count : ℕ) (tiles operations : List ℕ)
         → count ≡ length (apply (effect p) key (usedTiles w))
         → tiles ≡ padded (length (w .tiles)) (apply (effect p) key (usedTiles w))
-        → operations ≡ set (w .operations) (w .session .operations) (packEntry (kind p (member key (usedTiles w))) job key)
+        → operations ≡ set (w .operations) (w .session .operations) (packEntry sheet (kind p (member key (usedTiles w))) job key)
         → world (record { rule = w .session .rule; marks = w .session .marks; tiles = count; operations = w .session .operations + 1; journal = w .session .journal }) tiles operations (w .journal)
-        ≡ withState w (perform (state w) (operation job p key))
+        ≡ withState w (perform (state w) (operation job sheet p key))
     performed count tiles operations a b c =
-        let new = packEntry (kind p (member key (usedTiles w))) job key in
+        let new = packEntry sheet (kind p (member key (usedTiles w))) job key in
         let more = c ∙ padded-more (w .operations) (w .session .operations) new slot-free (entry-table w (r .tabled)) in
         (λ i. world (record { rule = w .session .rule; marks = w .session .marks; tiles = a i; operations = w .session .operations + 1; journal = w .session .journal }) (b i) (more i) (w .journal))
-        ∙ sym (operation-form w (r .tabled) job p key)
+        ∙ sym (operation-form w (r .tabled) job sheet p key)
 
   pub aborted : (job : ℕ) → Ready w (abort job) → (count left : ℕ) (tiles operations : List ℕ)
       → count ≡ length (recoveredJob job (usedOperations w) (usedTiles w)) → tiles ≡ padded (length (w .tiles)) (recoveredJob job (usedOperations w) (usedTiles w))

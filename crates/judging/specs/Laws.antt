@@ -12,7 +12,7 @@ use borrow.Author.Tests.{eqb-false, le-ltb, lt-ltb, not-true}
 use Rattle.lists.specs.Lists.{slice-end, slice-next}
 use Rattle.lists.specs.Truth.{both, both-false, oneIf}
 use Rattle.strict.specs.Book.{Book, deleted, heldBy, needsPlace, spokenFor}
-use Rattle.strict.specs.Commutativity.{holder}
+use Rattle.strict.specs.Commutativity.{Signature, holder}
 use Rattle.strict.specs.Operations.{Op, begun, kind}
 use Rattle.strict.specs.Tiles.{member}
 use Rattle.strict.specs.declared.Procedure.{Procedure}
@@ -35,11 +35,11 @@ use Rattle.judging.specs.declared.Seen.{Seen}
 
 -- what one look means
 abbrev pub Sees : Rule → Book → ℕ → Procedure → ℕ → Seen → Type 0
-Sees b m job p k (look.Held by) = heldBy b m job p k ≡ some by
+Sees b m job p k (look.Held by sheet) = heldBy b m job p k ≡ some (record { job = by; sheet = sheet })
 Sees b m job p k (look.Free needs) = (heldBy b m job p k ≡ none) × (needsPlace b (m .table) (begun job p k (m .tiles)) ≡ needs)
 
 module _ (b : Rule) (m : Book) (job : ℕ) (p : Procedure) (k : ℕ) where
-  pub held : (by : ℕ) → heldBy b m job p k ≡ some by → look.Held by ≡ lookOf b m job p k
+  pub held : (by : Signature) → heldBy b m job p k ≡ some by → look.Held (by .job) (by .sheet) ≡ lookOf b m job p k
   unfolding lookOf
   held by h = rw h
 
@@ -51,7 +51,7 @@ module _ (b : Rule) (m : Book) (job : ℕ) (p : Procedure) (k : ℕ) where
   unfolding lookOf
   sees = go (heldBy b m job p k) refl
     where
-      go : (o : Option ℕ) → heldBy b m job p k ≡ o → Sees b m job p k (lookBy o (look.Free (needsPlace b (m .table) (begun job p k (m .tiles)))))
+      go : (o : Option Signature) → heldBy b m job p k ≡ o → Sees b m job p k (lookBy o (look.Free (needsPlace b (m .table) (begun job p k (m .tiles)))))
       go (some by) e = e
       go none e = (e, refl)
 
@@ -112,7 +112,7 @@ module _ {b : Rule} {m : Book} {job : ℕ} {p : Procedure} {ks₀ : List ℕ} {n
         let e : oneIf (needsPlace b (m .table) (begun job p (getD l i 0) (m .tiles))) ≡ oneIf needs = ap oneIf (s .1) in
         record { held-left = a .held-left ∙ ap (λ o. firstOf o (firstHeld b m job p (slice (i + 1) n l))) (s .0); need-left = omega arith }
 
-    pub left-held : (by : ℕ) → Sees b m job p (getD l i 0) (look.Held by) → found.Held by ≡ listOf b m job p ks₀
+    pub left-held : (by : Signature) → Sees b m job p (getD l i 0) (look.Held (by .job) (by .sheet)) → found.Held (by .job) (by .sheet) ≡ listOf b m job p ks₀
     unfolding listOf
     left-held by s =
         let e : firstHeld b m job p ks₀ ≡ some by = left-next .held-left ∙ ap (λ o. firstOf o (firstHeld b m job p (slice (i + 1) n l))) s in
@@ -128,14 +128,14 @@ module _ {b : Rule} {m : Book} {job : ℕ} {p : Procedure} {ks₀ : List ℕ} {n
 
 -- what a list finds
 abbrev pub Finds : Rule → Book → ℕ → Procedure → List ℕ → Found → Type 0
-Finds b m job p ks (found.Held by) = firstHeld b m job p ks ≡ some by
+Finds b m job p ks (found.Held by sheet) = firstHeld b m job p ks ≡ some (record { job = by; sheet = sheet })
 Finds b m job p ks (found.Needs need) = (firstHeld b m job p ks ≡ none) × (needed b m job p ks ≡ need)
 
 pub finds : (b : Rule) (m : Book) (job : ℕ) (p : Procedure) (ks : List ℕ) (v u : Found) → v ≡ listOf b m job p ks → v ≡ u → Finds b m job p ks u
 unfolding listOf
 finds b m job p ks v u is seen = subst (Finds b m job p ks) (sym is ∙ seen) (go (firstHeld b m job p ks) refl)
   where
-    go : (o : Option ℕ) → firstHeld b m job p ks ≡ o → Finds b m job p ks (listBy o (needed b m job p ks))
+    go : (o : Option Signature) → firstHeld b m job p ks ≡ o → Finds b m job p ks (listBy o (needed b m job p ks))
     go (some by) e = e
     go none e = (e, refl)
 
@@ -165,7 +165,7 @@ module _ (w : World) (job : ℕ) (p : Procedure) (l : List ℕ) (n : ℕ) (fits 
   abbrev ks : List ℕ
   ks = take n l
 
-  pub held-told : (by : ℕ) → Finds (w .session .rule) (state w .book) job p ks (found.Held by)
+  pub held-told : (by : Signature) → Finds (w .session .rule) (state w .book) job p ks (found.Held (by .job) (by .sheet))
       → toldHeld by ≡ decided (listRefusals w job p ks) (bare 0)
   held-told by h = rw h
 

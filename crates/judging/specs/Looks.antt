@@ -5,6 +5,7 @@ use Prim.Native.Nat.{_*_, _+_, ℕ}
 use lib.Dec.{ltb}
 use lib.ListN.{length}
 use Rattle.strict.specs.Book.{Book, heldBy, needsPlace, spokenFor}
+use Rattle.strict.specs.Commutativity.{Signature}
 use Rattle.strict.specs.Operations.{begun}
 use Rattle.strict.specs.declared.Procedure.{Procedure}
 use Rattle.strict.specs.declared.Rule.{Rule}
@@ -19,16 +20,16 @@ use Rattle.judging.specs.declared.Seen.the-variants as look
 use Rattle.judging.specs.declared.Seen.{Seen}
 
 -- one tile: its holder, or whether it needs a place
-abbrev pub lookBy : Option ℕ → Seen → Seen
-lookBy (some job) other = look.Held job
+abbrev pub lookBy : Option Signature → Seen → Seen
+lookBy (some by) other = look.Held (by .job) (by .sheet)
 lookBy none other = other
 
 unfoldable pub lookOf : Rule → Book → ℕ → Procedure → ℕ → Seen
 lookOf b m job p k = lookBy (heldBy b m job p k) (look.Free (needsPlace b (m .table) (begun job p k (m .tiles))))
 
 -- a list: the first holder, or how many places it needs
-abbrev pub listBy : Option ℕ → ℕ → Found
-listBy (some job) n = found.Held job
+abbrev pub listBy : Option Signature → ℕ → Found
+listBy (some by) n = found.Held (by .job) (by .sheet)
 listBy none n = found.Needs n
 
 unfoldable pub listOf : Rule → Book → ℕ → Procedure → List ℕ → Found

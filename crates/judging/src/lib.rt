@@ -19,15 +19,15 @@ use service::SHORT_SIZE;
 use service::Session;
 use strict::Procedure;
 
-// What one tile of a list finds: its holder's job, or whether it needs a place.
+// What one tile of a list finds: its holder's job and sheet, or whether it needs a place.
 pub enum Seen {
-    Held(u8),
+    Held { job: u8, sheet: u16 },
     Free(bool),
 }
 
-// What a list finds: the job of the first holder, or how many places it needs.
+// What a list finds: job and sheet of the first holder, or how many places it needs.
 pub enum Found {
-    Held(u8),
+    Held { job: u8, sheet: u16 },
     Needs(usize),
 }
 
@@ -49,7 +49,11 @@ fn look_at(
     let kind = admission::kind(procedure, tiles::is_present(tiles, count, key));
     let holder = rules::first_holder(rule, operations, used, job, kind, key);
     if let Holder::At(place) = holder {
-        return Seen::Held(layout::job_in(operations[place]));
+        let e = operations[place];
+        return Seen::Held {
+            job: layout::job_in(e),
+            sheet: layout::sheet_in(e),
+        };
     }
     Seen::Free(rules::needs_place(rule, operations, used, kind, key))
 }
@@ -108,8 +112,8 @@ fn look_all(
         let key = keys[i];
         let met = filter::is_met(filter, key);
         match look_past(session, tiles, operations, job, procedure, key, met) {
-            Seen::Held(holder) => {
-                return Found::Held(holder);
+            Seen::Held { job: by, sheet } => {
+                return Found::Held { job: by, sheet };
             }
             Seen::Free(needs) => {
                 need = more(need, needs);
@@ -169,7 +173,7 @@ pub fn judge_list(
     let used = session.operations;
     let filter = filter::meet_all(operations, used);
     match look_all(session, tiles, operations, &filter, job, procedure, keys, n) {
-        Found::Held(holder) => Reply::Held(holder),
+        Found::Held { job: by, sheet } => Reply::Held { job: by, sheet },
         Found::Needs(need) => lacking(session, tiles, operations, journal, need, n),
     }
 }

@@ -1,22 +1,29 @@
-// An entry of the operation table as one number: made of a kind, a job and a key, and taken apart.
+// An entry of the operation table as one number: made of a sheet, a kind, a job and a key, and taken apart.
 ghost use mathlib.Core.Path.{_≡_};
 ghost use Prim.Native.Nat.{_≤_};
-ghost use Rattle.service.specs.Entry.{jobIn, keyIn, kindIn, packEntry};
+ghost use Rattle.service.specs.Entry.{jobIn, keyIn, kindIn, packEntry, sheetIn};
 use service::JOB_FACTOR;
 use service::KIND_FACTOR;
+use service::SHEET_FACTOR;
 
-// kind × 2^40 + job × 2^32 + key
-pub fn entry(kind: usize, job: u8, key: u32) -> u64
+// sheet × 2^48 + kind × 2^40 + job × 2^32 + key
+pub fn entry(sheet: u16, kind: usize, job: u8, key: u32) -> u64
     requires { ⌜ kind ≤ 6 ⌝ }
-    ensures { λ r. ⌜ r ≡ packEntry kind job key ⌝ }
+    ensures { λ r. ⌜ r ≡ packEntry sheet kind job key ⌝ }
 {
-    kind as u64 * KIND_FACTOR + job as u64 * JOB_FACTOR + key as u64
+    sheet as u64 * SHEET_FACTOR + kind as u64 * KIND_FACTOR + job as u64 * JOB_FACTOR + key as u64
+}
+
+pub fn sheet_in(e: u64) -> u16
+    ensures { λ r. ⌜ r ≡ sheetIn e ⌝ }
+{
+    (e / SHEET_FACTOR) as u16
 }
 
 pub fn kind_in(e: u64) -> usize
     ensures { λ r. ⌜ r ≡ kindIn e ⌝ }
 {
-    (e / KIND_FACTOR) as usize
+    (e / KIND_FACTOR % 256) as usize
 }
 
 pub fn job_in(e: u64) -> u8

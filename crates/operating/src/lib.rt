@@ -59,11 +59,12 @@ pub fn operation(
     operations: &mut [u64],
     journal: &mut [u8],
     job: u8,
+    sheet: u16,
     procedure: Procedure,
     address: Address,
 ) -> Outcome
     ensures { λ r. ⌜ reported r (now (tiles .exit)) (now (operations .exit)) (now (journal .exit))
-        ≡ operationCall (world session (now (tiles .entry)) (now (operations .entry)) (now (journal .entry))) job procedure address ⌝ }
+        ≡ operationCall (world session (now (tiles .entry)) (now (operations .entry)) (now (journal .entry))) job sheet procedure address ⌝ }
 {
     match decisions::operation_decision(
         session,
@@ -81,6 +82,7 @@ pub fn operation(
             operations,
             journal,
             job,
+            sheet,
             procedure,
             spot,
             turns,

@@ -19,11 +19,11 @@ use Rattle.shapes.specs.Shaping.{Shapes}
 use Rattle.shapes.specs.declared.Shape.the-variants.{Fine}
 
 -- 6, 7, 8 and 9 of a list, and else all of it
-abbrev pub listAfter : World → ℕ → Procedure → List ℕ → Told → Reported
-listAfter w job p ks t = record { told = t; after = cond (eqb (t .number) 0) (carriedAll w job p ks) w }
+abbrev pub listAfter : World → ℕ → ℕ → Procedure → List ℕ → Told → Reported
+listAfter w job sheet p ks t = record { told = t; after = cond (eqb (t .number) 0) (carriedAll w job sheet p ks) w }
 
-unfoldable pub listCall : World → ℕ → Procedure → List ℕ → Reported
-listCall w job p ks = listAfter w job p ks (decided (listRefusals w job p ks) (bare 0))
+unfoldable pub listCall : World → ℕ → ℕ → Procedure → List ℕ → Reported
+listCall w job sheet p ks = listAfter w job sheet p ks (decided (listRefusals w job p ks) (bare 0))
 
 -- a list that is done tells the turns of its rectangle
 abbrev pub turnsAdded : Rectangle → Told → Told
@@ -37,7 +37,7 @@ pub record Carries (w : World) (job : ℕ) (l : List ℕ) (n : ℕ) : Type 0 whe
   pub valid : All (λ k. isKey k ≡ true) (take n l)
   pub apart : Apart (take n l)
 
--- nor do 5 and 13
+-- nor do 14, 5 and 13
 pub record Asks (w : World) (job : ℕ) (r : Rectangle) (corner height n : ℕ) : Type 0 where
   pub ready : Serves w job
   pub shape : Shapes r (Fine corner height n)

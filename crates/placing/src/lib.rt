@@ -25,17 +25,27 @@ fn place_run(
     operations: &mut [u64],
     journal: &mut [u8],
     job: u8,
+    sheet: u16,
     procedure: Procedure,
     keys: &[u32],
 ) -> Session
-    requires { ⌜ Ahead job procedure (world session (now tiles) (now operations) (now journal)) (now keys)
+    requires { ⌜ Ahead job sheet procedure (world session (now tiles) (now operations) (now journal)) (now keys)
         (world session (now tiles) (now operations) (now journal)) (now keys)
         × Ascending (now keys) ⌝ }
     ensures { λ r. ⌜ world r (now (tiles .exit)) (now (operations .exit)) (now (journal .exit))
-        ≡ carriedAll (world session (now (tiles .entry)) (now (operations .entry)) (now (journal .entry))) job procedure (now (keys .entry)) ⌝ }
+        ≡ carriedAll (world session (now (tiles .entry)) (now (operations .entry)) (now (journal .entry))) job sheet procedure (now (keys .entry)) ⌝ }
 {
     let count = session.tiles;
-    let reached = noting::note_all(session, tiles, operations, journal, job, procedure, keys);
+    let reached = noting::note_all(
+        session,
+        tiles,
+        operations,
+        journal,
+        job,
+        sheet,
+        procedure,
+        keys,
+    );
     let left = reached.tiles;
     runs::affect_run(tiles, count, procedure, keys, left);
     reached
@@ -48,15 +58,16 @@ fn place_all(
     operations: &mut [u64],
     journal: &mut [u8],
     job: u8,
+    sheet: u16,
     procedure: Procedure,
     keys: &[u32],
     n: usize,
 ) -> Session
     requires { ⌜ (n ≤ length (now keys))
-        × Ahead job procedure (world session (now tiles) (now operations) (now journal)) (take n (now keys))
+        × Ahead job sheet procedure (world session (now tiles) (now operations) (now journal)) (take n (now keys))
         (world session (now tiles) (now operations) (now journal)) (take n (now keys)) ⌝ }
     ensures { λ r. ⌜ world r (now (tiles .exit)) (now (operations .exit)) (now (journal .exit))
-        ≡ carriedAll (world session (now (tiles .entry)) (now (operations .entry)) (now (journal .entry))) job procedure (take n (now (keys .entry))) ⌝ }
+        ≡ carriedAll (world session (now (tiles .entry)) (now (operations .entry)) (now (journal .entry))) job sheet procedure (take n (now (keys .entry))) ⌝ }
 {
     let mut reached = session;
     let mut i: usize = 0;
@@ -68,6 +79,7 @@ fn place_all(
             operations,
             journal,
             job,
+            sheet,
             procedure,
             &keys[i..end],
         );
@@ -83,13 +95,14 @@ fn carry_list(
     operations: &mut [u64],
     journal: &mut [u8],
     job: u8,
+    sheet: u16,
     procedure: Procedure,
     keys: &[u32],
     n: usize,
 ) -> Outcome
     requires { ⌜ Carries (world session (now tiles) (now operations) (now journal)) job (now keys) n ⌝ }
     ensures { λ r. ⌜ reported r (now (tiles .exit)) (now (operations .exit)) (now (journal .exit))
-        ≡ listCall (world session (now (tiles .entry)) (now (operations .entry)) (now (journal .entry))) job procedure (take n (now (keys .entry))) ⌝ }
+        ≡ listCall (world session (now (tiles .entry)) (now (operations .entry)) (now (journal .entry))) job sheet procedure (take n (now (keys .entry))) ⌝ }
 {
     let reply = judging::judge_list(session, tiles, operations, journal, job, procedure, keys, n);
     if !decisions::accepted(reply) {
@@ -97,7 +110,17 @@ fn carry_list(
     }
     Outcome {
         reply,
-        session: place_all(session, tiles, operations, journal, job, procedure, keys, n),
+        session: place_all(
+            session,
+            tiles,
+            operations,
+            journal,
+            job,
+            sheet,
+            procedure,
+            keys,
+            n,
+        ),
     }
 }
 
@@ -118,6 +141,7 @@ fn carry_rectangle(
     operations: &mut [u64],
     journal: &mut [u8],
     job: u8,
+    sheet: u16,
     procedure: Procedure,
     r: Rectangle,
     corner: u32,
@@ -126,7 +150,7 @@ fn carry_rectangle(
 ) -> Outcome
     requires { ⌜ Asks (world session (now tiles) (now operations) (now journal)) job r corner height n ⌝ }
     ensures { λ x. ⌜ reported x (now (tiles .exit)) (now (operations .exit)) (now (journal .exit))
-        ≡ listCall (world session (now (tiles .entry)) (now (operations .entry)) (now (journal .entry))) job procedure (keysOf (listed r)) ⌝ }
+        ≡ listCall (world session (now (tiles .entry)) (now (operations .entry)) (now (journal .entry))) job sheet procedure (keysOf (listed r)) ⌝ }
 {
     let mut keys = [0u32; 256];
     shapes::list_tiles(r, corner, height, n, &mut keys);
@@ -136,6 +160,7 @@ fn carry_rectangle(
         operations,
         journal,
         job,
+        sheet,
         procedure,
         &keys,
         n as usize,
@@ -165,12 +190,13 @@ fn carry_shaped(
     operations: &mut [u64],
     journal: &mut [u8],
     job: u8,
+    sheet: u16,
     change: Change,
     r: Rectangle,
 ) -> Outcome
     requires { ⌜ Serves (world session (now tiles) (now operations) (now journal)) job ⌝ }
     ensures { λ x. ⌜ reported x (now (tiles .exit)) (now (operations .exit)) (now (journal .exit))
-        ≡ rectangleCall (world session (now (tiles .entry)) (now (operations .entry)) (now (journal .entry))) job change r ⌝ }
+        ≡ rectangleCall (world session (now (tiles .entry)) (now (operations .entry)) (now (journal .entry))) job sheet change r ⌝ }
 {
     match shapes::shape_of(r) {
         Shape::NoEdition => Outcome {
@@ -193,6 +219,7 @@ fn carry_shaped(
                 operations,
                 journal,
                 job,
+                sheet,
                 procedure,
                 r,
                 corner,
@@ -216,11 +243,12 @@ pub fn rectangle(
     operations: &mut [u64],
     journal: &mut [u8],
     job: u8,
+    sheet: u16,
     change: Change,
     r: Rectangle,
 ) -> Outcome
     ensures { λ x. ⌜ reported x (now (tiles .exit)) (now (operations .exit)) (now (journal .exit))
-        ≡ rectangleCall (world session (now (tiles .entry)) (now (operations .entry)) (now (journal .entry))) job change r ⌝ }
+        ≡ rectangleCall (world session (now (tiles .entry)) (now (operations .entry)) (now (journal .entry))) job sheet change r ⌝ }
 {
     let gate = decisions::end_reply(session, tiles, operations, journal, job);
     if !decisions::accepted(gate) {
@@ -229,5 +257,5 @@ pub fn rectangle(
             session,
         };
     }
-    carry_shaped(session, tiles, operations, journal, job, change, r)
+    carry_shaped(session, tiles, operations, journal, job, sheet, change, r)
 }

@@ -4,7 +4,7 @@ use mathlib.Core.List.{List, map}
 use mathlib.Core.Path.{_≡_, refl, sym}
 use Prim.Native.Nat.{ℕ}
 use borrow.Author.Tests.{ne-eqb}
-use Rattle.entries.specs.Laws.{holder-place, jobAt, opposed, others-changed}
+use Rattle.entries.specs.Laws.{holder-place, opposed, others-changed, signedAt}
 use Rattle.entries.specs.Table.{firstPlace}
 use Rattle.service.specs.Entry.{opIn}
 use Rattle.strict.specs.Book.{heldBy, needsPlace}
@@ -16,9 +16,9 @@ use Rattle.strict.specs.declared.Rule.the-variants.{Alone, Together}
 use Rattle.rules.specs.Rules.{holdsBy, wantsPlace}
 
 module _ (job : ℕ) (p : Procedure) (key : ℕ) (t : List ℕ) where
-  -- the holder is the job of the first entry that holds
+  -- the holder is whose the first entry is that holds
   pub held-place : (r : Rule) (es : List ℕ)
-      → heldBy r (record { tiles = t; table = map opIn es }) job p key ≡ jobAt es (firstPlace (holdsBy r job (kind p (member key t)) key) es)
+      → heldBy r (record { tiles = t; table = map opIn es }) job p key ≡ signedAt es (firstPlace (holdsBy r job (kind p (member key t)) key) es)
   held-place Alone es = holder-place Alone (begun job p key t) (holdsBy Alone job (kind p (member key t)) key) (opposed job p key t) es
   held-place Together es = holder-place Together (begun job p key t) (holdsBy Together job (kind p (member key t)) key) (others-changed job p key t) es
 

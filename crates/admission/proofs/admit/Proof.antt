@@ -9,11 +9,11 @@ use lib.Seq.{getD-take, length-take-le}
 use borrow.Author.Needs.{needs}
 use borrow.Author.Tests.{eq-eqb, ne-eqb}
 use denote.Ref.{now}
-use Rattle.entries.specs.Laws.{jobAt, place-inside}
+use Rattle.entries.specs.Laws.{signedAt, place-inside}
 use Rattle.entries.specs.Table.{firstPlace}
 use Rattle.rules.specs.Laws.{held-place, place-wanted}
 use Rattle.rules.specs.Rules.{holdsBy}
-use Rattle.service.specs.Entry.{jobIn, opIn}
+use Rattle.service.specs.Entry.{jobIn, opIn, sheetIn}
 use Rattle.service.specs.Laws.Entries.{kind-range}
 use Rattle.service.specs.World.{World, state, usedOperations, usedTiles, world}
 use Rattle.strict.specs.Operations.{kind}
@@ -32,12 +32,12 @@ found c = ap (λ (x : Spot). x .there) (c .find .ensures)
 
 held-by : (c : tie.After-first-holder)
     → let a = c .before .before .before .before .before .args in
-    theHolder (length (now (a .tiles))) (length (now (a .operations))) (state (given c)) (a .job) (a .procedure) (a .key) ≡ jobAt (usedOperations (given c)) (c .first-holder .result)
+    theHolder (length (now (a .tiles))) (length (now (a .operations))) (state (given c)) (a .job) (a .procedure) (a .key) ≡ signedAt (usedOperations (given c)) (c .first-holder .result)
 held-by c =
     let a = c .before .before .before .before .before .args in
     let of-kind = ap (λ n. firstPlace (holdsBy (a .session .rule) (a .job) n (a .key)) (usedOperations (given c))) (c .before .kind .ensures ∙ ap (kind (a .procedure)) (found (c .before .before))) in
     held-place (a .job) (a .procedure) (a .key) (usedTiles (given c)) (a .session .rule) (usedOperations (given c))
-    ∙ ap (jobAt (usedOperations (given c))) (sym (c .first-holder .ensures ∙ of-kind))
+    ∙ ap (signedAt (usedOperations (given c))) (sym (c .first-holder .ensures ∙ of-kind))
 
 -- the holder's place is a used one
 place-there : (c : tie.After-holder) → c .holder .given .0 .0 < c .before .before .before .before .before .before .before .args .session .operations
@@ -51,7 +51,7 @@ free : (c : tie.After-enum-told)
     → let f = c .before .before in
     let a = f .before .before .before .before .before .args in
     theHolder (length (now (a .tiles))) (length (now (a .operations))) (state (given f)) (a .job) (a .procedure) (a .key) ≡ none
-free c = let f = c .before .before in held-by f ∙ ap (jobAt (usedOperations (given f))) (c .enum-told .given .1)
+free c = let f = c .before .before in held-by f ∙ ap (signedAt (usedOperations (given f))) (c .enum-told .given .1)
 
 lacks : (c : tie.After-lacks-place)
     → let w = given (c .before .before .before) in
@@ -80,23 +80,27 @@ first-holder-requires c κs =
 enum-known-holder : tie.Need-enum-known-holder
 enum-known-holder c = search needs
 
-mul-job-in : tie.Need-mul-job-in
-mul-job-in c = omega (arith, place-there (c .before), c .before .before .before .before .before .before .before .before .pre .operations-fit)
+mul-e : tie.Need-mul-e
+mul-e c = omega (arith, place-there (c .before), c .before .before .before .before .before .before .before .before .pre .operations-fit)
 
-shared-slice-read-job-in : tie.Need-shared-slice-read-job-in
-shared-slice-read-job-in c = omega (arith, place-there (c .before .before), c .before .before .before .before .before .before .before .before .before .pre .operations-fit)
+shared-slice-read-e : tie.Need-shared-slice-read-e
+shared-slice-read-e c = omega (arith, place-there (c .before .before), c .before .before .before .before .before .before .before .before .before .pre .operations-fit)
 
 job-in-requires : tie.Need-job-in-requires
 job-in-requires c κs = search needs
 
+sheet-in-requires : tie.Need-sheet-in-requires
+sheet-in-requires c κs = search needs
+
 returns : tie.Need-returns
 returns c =
-    let f = c .before .before .before .before .before in
-    let h = c .before .before .before in
+    let f = c .before .before .before .before .before .before in
+    let h = c .before .before .before .before in
     let a = f .before .before .before .before .before .args in
-    held _ _ _ (a .job) (a .procedure) (a .key) (c .job-in .result)
-    (held-by f ∙ ap (jobAt (usedOperations (given f))) (h .holder .given .1)
-    ∙ ap (λ e. some (jobIn e)) (getD-take (a .session .operations) (now (a .operations)) (h .holder .given .0 .0) 0 (place-there h)) ∙ ap {B = Option ℕ} some (sym (c .job-in .ensures)))
+    held _ _ _ (a .job) (a .procedure) (a .key) (record { job = c .before .job-in .result; sheet = c .sheet-in .result })
+    (held-by f ∙ ap (signedAt (usedOperations (given f))) (h .holder .given .1)
+    ∙ ap (λ e. some (record { job = jobIn e; sheet = sheetIn e })) (getD-take (a .session .operations) (now (a .operations)) (h .holder .given .0 .0) 0 (place-there h))
+    ∙ (λ i. some (record { job = sym (c .before .job-in .ensures) i; sheet = sym (c .sheet-in .ensures) i })))
 
 enum-told : tie.Need-enum-told
 enum-told c = search needs
@@ -121,9 +125,10 @@ admit-spec =
     kind-requires
     first-holder-requires
     enum-known-holder
-    mul-job-in
-    shared-slice-read-job-in
+    mul-e
+    shared-slice-read-e
     job-in-requires
+    sheet-in-requires
     returns
     enum-told
     lacks-place-requires

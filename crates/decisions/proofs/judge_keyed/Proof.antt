@@ -31,8 +31,8 @@ admit-requires c κs =
     let s = c .before .before .before in
     retabled (given s) (s .args .session .journal) [] (s .pre .tables)
 
-enum-known-holder : tie.Need-enum-known-holder
-enum-known-holder c = search needs
+enum-known-by : tie.Need-enum-known-by
+enum-known-by c = search needs
 
 enum-told : tie.Need-enum-told
 enum-told c = search needs
@@ -65,7 +65,7 @@ returns c =
 returns-2 : tie.Need-returns-2
 returns-2 c =
     let s = c .before .before .before .before .before .before .before in
-    judges-held (given s) (s .args .job) (s .args .procedure) (s .args .key) (s .args .turns) _ (meaning (c .before .before .before) _ (c .before .holder .given .1))
+    judges-held (given s) (s .args .job) (s .args .procedure) (s .args .key) (s .args .turns) _ _ (meaning (c .before .before .before) _ (c .before .by .given .1))
 
 returns-3 : tie.Need-returns-3
 returns-3 c =
@@ -89,7 +89,7 @@ judge-keyed-spec =
     tie.close
     (tie.spec
     admit-requires
-    enum-known-holder
+    enum-known-by
     enum-told
     enum-told-2
     enum-known-spot

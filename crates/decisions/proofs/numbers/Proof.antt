@@ -7,8 +7,8 @@ use Rattle.decisions.proofs.numbers.Tie as tie
 enum-known-reply : tie.Need-enum-known-reply
 enum-known-reply c = search needs
 
-cast-t7 : tie.Need-cast-t7
-cast-t7 c = search needs
+cast-t8 : tie.Need-cast-t8
+cast-t8 c = search needs
 
 enum-told : tie.Need-enum-told
 enum-told c = search needs
@@ -117,7 +117,7 @@ numbers-spec =
     tie.close
     (tie.spec
     enum-known-reply
-    cast-t7
+    cast-t8
     enum-told
     bare-number-requires
     enum-told-2

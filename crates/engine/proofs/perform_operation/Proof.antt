@@ -34,12 +34,12 @@ mul-operations : tie.Need-mul-operations
 mul-operations c = search needs
 
 slice-write-operations : tie.Need-slice-write-operations
-slice-write-operations c = let s = c .before .before .before .before in slot-free (given s) (full s) _ _ _ (s .pre .0)
+slice-write-operations c = let s = c .before .before .before .before in slot-free (given s) (full s) _ _ _ _ (s .pre .0)
 
 affect-requires : tie.Need-affect-requires
 affect-requires c κs =
     let s = c .before .before .before .before .before in
-    (tile-table (given s) (s .pre .0 .tabled), s .pre .1, affected-fits (given s) (full s) _ _ _ (s .pre .0))
+    (tile-table (given s) (s .pre .0 .tabled), s .pre .1, affected-fits (given s) (full s) _ _ _ _ (s .pre .0))
 
 add-next : tie.Need-add-next
 add-next c = search needs
@@ -54,7 +54,7 @@ returns : tie.Need-returns
 returns c =
     let e = c .before .before .before .before in
     let s = e .before .before .before .before in
-    performed (given s) (full s) (s .args .job) (s .args .procedure) (s .args .spot .key) (s .pre .0) _ _ _ (c .before .before .affect .ensures .0) (c .before .before .affect .ensures .1)
+    performed (given s) (full s) (s .args .job) (s .args .sheet) (s .args .procedure) (s .args .spot .key) (s .pre .0) _ _ _ (c .before .before .affect .ensures .0) (c .before .before .affect .ensures .1)
     (rw (e .entry .ensures, e .before .kind .ensures, found s) refl)
 
 pub perform-operation-spec : {M : Type 1} → statement M

@@ -29,8 +29,8 @@ look-all-requires c κs =
     let met = c .before .meet-all .ensures in
     (retabled (given s) (s .args .session .journal) [] (s .pre .0 .tables), s .pre .1, s .pre .2, met .0, met .1)
 
-enum-known-holder : tie.Need-enum-known-holder
-enum-known-holder c = search needs
+enum-known-by : tie.Need-enum-known-by
+enum-known-by c = search needs
 
 enum-known-need : tie.Need-enum-known-need
 enum-known-need c = search needs
@@ -43,7 +43,7 @@ lacking-requires c κs =
 returns : tie.Need-returns
 returns c =
     let s = c .before .before .before .before .before .before .before .before .before .before in
-    held-told (given s) (s .args .job) (s .args .procedure) (now (s .args .keys)) (s .args .n) (s .pre .1) _ (finds _ _ _ _ _ _ _ (c .before .before .before .look-all .ensures) (c .before .holder .given .1))
+    held-told (given s) (s .args .job) (s .args .procedure) (now (s .args .keys)) (s .args .n) (s .pre .1) _ (finds _ _ _ _ _ _ _ (c .before .before .before .look-all .ensures) (c .before .by .given .1))
 
 returns-2 : tie.Need-returns-2
 returns-2 c =
@@ -56,7 +56,7 @@ judge-list-spec =
     (tie.spec
     meet-all-requires
     look-all-requires
-    enum-known-holder
+    enum-known-by
     enum-known-need
     lacking-requires
     returns

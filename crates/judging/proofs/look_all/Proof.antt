@@ -37,15 +37,15 @@ look-past-requires c κs =
     let s = c .before .before .before .before .before .before .before in
     (s .pre .0, c .is-met .ensures (take (s .args .session .operations) (now (s .args .operations))) (s .pre .4))
 
-enum-known-holder : tie.Need-enum-known-holder Inv-loop μ-loop
-enum-known-holder c = search needs
+enum-known-by : tie.Need-enum-known-by Inv-loop μ-loop
+enum-known-by c = search needs
 
 returns : tie.Need-returns Inv-loop μ-loop
 returns c =
     let l = c .before .before .before .before .before .before .before .loop in
     let s = c .before .before .before .before .before .before .before .before .before .before .before in
     left-held (now (s .args .keys)) (s .args .n) (l .i) (l .inv .2) (s .pre .1) (omega arith) _
-    (seen-so _ _ _ _ _ _ _ (c .before .before .before .look-past .ensures) (c .before .holder .given .1))
+    (seen-so _ _ _ _ _ _ _ (c .before .before .before .look-past .ensures) (c .before .by .given .1))
 
 enum-known-needs : tie.Need-enum-known-needs Inv-loop μ-loop
 enum-known-needs c = search needs
@@ -89,7 +89,7 @@ look-all-spec =
     shared-slice-read-key
     is-met-requires
     look-past-requires
-    enum-known-holder
+    enum-known-by
     returns
     enum-known-needs
     more-requires

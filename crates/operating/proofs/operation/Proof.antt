@@ -26,7 +26,7 @@ carry-out-requires c κs =
     let s = c .before .before .before .before .before .before .before .before .before .before .before .before .before in
     let decides = c .before .before .before .before .before .before .operation-decision .ensures in
     let is = c .before .before .before .before .spot .given .1 in
-    (passes-decided (given s) (s .args .job) (s .args .procedure) (s .args .address) _ decides _ _ is, spot-decided (given s) (s .args .job) (s .args .procedure) (s .args .address) _ decides _ _ is)
+    (passes-decided (given s) (s .args .job) (s .args .sheet) (s .args .procedure) (s .args .address) _ decides _ _ is, spot-decided (given s) (s .args .job) (s .args .sheet) (s .args .procedure) (s .args .address) _ decides _ _ is)
 
 same-length : tie.Need-same-length
 same-length c = search needs
@@ -40,7 +40,7 @@ same-length-3 c = search needs
 returns : tie.Need-returns
 returns c =
     let s = c .before .before .before .before .before .before .before .before .before .before in
-    refusal-decided (given s) (s .args .job) (s .args .procedure) (s .args .address) _ (c .before .before .before .operation-decision .ensures) _ (c .before .reply .given .1)
+    refusal-decided (given s) (s .args .job) (s .args .sheet) (s .args .procedure) (s .args .address) _ (c .before .before .before .operation-decision .ensures) _ (c .before .reply .given .1)
 
 same-length-4 : tie.Need-same-length-4
 same-length-4 c = search needs
@@ -58,7 +58,7 @@ returns-2 c =
     let decided = spot .before .before in
     let s = decided .before .before .before .before .before .before .before in
     (rw (field-read (spot .spot .given .0 .1 .0) (done .before .before .before .before .known-told2 .given .1 .0 .1)) at (done .carry-out .ensures))
-    ∙ carried-decided (given s) (s .args .job) (s .args .procedure) (s .args .address) _ (decided .operation-decision .ensures) _ _ (spot .spot .given .1)
+    ∙ carried-decided (given s) (s .args .job) (s .args .sheet) (s .args .procedure) (s .args .address) _ (decided .operation-decision .ensures) _ _ (spot .spot .given .1)
 
 pub operation-spec : {M : Type 1} → statement M
 operation-spec =

@@ -35,13 +35,13 @@ same-length-3 c = search needs
 returns : tie.Need-returns
 returns c =
     let s = c .before .before .before .before .before .before .before .before .before .before in
-    list-refused (given s) (s .args .job) (s .args .procedure) (take (s .args .n) (now (s .args .keys))) _ (c .before .before .judge-list .ensures) (test-fails (c .before .accepted .ensures) (c .if1 .taken))
+    list-refused (given s) (s .args .job) (s .args .sheet) (s .args .procedure) (take (s .args .n) (now (s .args .keys))) _ (c .before .before .judge-list .ensures) (test-fails (c .before .accepted .ensures) (c .if1 .taken))
 
 place-all-requires : tie.Need-place-all-requires
 place-all-requires c κs =
     let s = c .before .before .before .before .before .before .before .before .before .before .before .before .before in (
       s .pre .fits-list,
-      list-ahead (given s) (s .args .job) (s .args .procedure) (now (s .args .keys)) (s .args .n) (s .pre) (full s) _ (c .before .before .before .before .before .judge-list .ensures)
+      list-ahead (given s) (s .args .job) (s .args .sheet) (s .args .procedure) (now (s .args .keys)) (s .args .n) (s .pre) (full s) _ (c .before .before .before .before .before .judge-list .ensures)
           (test-passes (c .before .before .before .before .accepted .ensures) (c .before .before .before .if1 .left)),
     )
 
@@ -58,7 +58,7 @@ returns-2 : tie.Need-returns-2
 returns-2 c =
     let placed = c .before .before .before .before .before .before in
     let s = placed .before .before .before .before .before .before .before .before .before .before .before .before .before .before in
-    list-done (given s) (s .args .job) (s .args .procedure) (take (s .args .n) (now (s .args .keys))) _ (placed .before .before .before .before .before .before .judge-list .ensures)
+    list-done (given s) (s .args .job) (s .args .sheet) (s .args .procedure) (take (s .args .n) (now (s .args .keys))) _ (placed .before .before .before .before .before .before .judge-list .ensures)
     (test-passes (placed .before .before .before .before .before .accepted .ensures) (placed .before .before .before .before .if1 .left)) _ (placed .place-all .ensures)
 
 pub carry-list-spec : {M : Type 1} → statement M

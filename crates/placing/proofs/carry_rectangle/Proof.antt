@@ -47,7 +47,7 @@ returns : tie.Need-returns
 returns c =
     let carried = c .before .before .before .before .before .before in
     let s = carried .before .before .before .before .before .before .before .before .before .before .before in
-    carried .carry-list .ensures ∙ ap (listCall (given s) (s .args .job) (s .args .procedure)) (carried .before .before .before .before .before .before .list-tiles .ensures .1)
+    carried .carry-list .ensures ∙ ap (listCall (given s) (s .args .job) (s .args .sheet) (s .args .procedure)) (carried .before .before .before .before .before .before .list-tiles .ensures .1)
 
 pub carry-rectangle-spec : {M : Type 1} → statement M
 carry-rectangle-spec =

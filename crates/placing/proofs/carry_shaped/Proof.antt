@@ -56,17 +56,17 @@ with-turns-requires c κs =
 returns : tie.Need-returns
 returns c =
     let s = c .before .before .before .before .before .before in
-    tells-fourteen (given s) (s .args .job) (s .args .change) (s .args .r) (s .pre) (subst (Shapes (s .args .r)) (c .enum-told .given .1) (c .before .before .shape-of .ensures))
+    tells-fourteen (given s) (s .args .job) (s .args .sheet) (s .args .change) (s .args .r) (s .pre) (subst (Shapes (s .args .r)) (c .enum-told .given .1) (c .before .before .shape-of .ensures))
 
 returns-2 : tie.Need-returns-2
 returns-2 c =
     let s = c .before .before .before .before .before .before in
-    tells-five (given s) (s .args .job) (s .args .change) (s .args .r) (s .pre) (subst (Shapes (s .args .r)) (c .enum-told2 .given .1) (c .before .before .shape-of .ensures))
+    tells-five (given s) (s .args .job) (s .args .sheet) (s .args .change) (s .args .r) (s .pre) (subst (Shapes (s .args .r)) (c .enum-told2 .given .1) (c .before .before .shape-of .ensures))
 
 returns-3 : tie.Need-returns-3
 returns-3 c =
     let s = c .before .before .before .before .before .before in
-    tells-thirteen (given s) (s .args .job) (s .args .change) (s .args .r) (s .pre) (subst (Shapes (s .args .r)) (c .enum-told3 .given .1) (c .before .before .shape-of .ensures))
+    tells-thirteen (given s) (s .args .job) (s .args .sheet) (s .args .change) (s .args .r) (s .pre) (subst (Shapes (s .args .r)) (c .enum-told3 .given .1) (c .before .before .shape-of .ensures))
 
 same-length : tie.Need-same-length
 same-length c = search needs
@@ -82,8 +82,8 @@ returns-4 c =
     let carried = c .before .before .before .before .before .before .before .before in
     let k = carried .before .before .before .before in
     let s = k .before .before .before .before .before .before .before .before in
-    let list = carried .carry-rectangle .ensures ∙ ap (λ p. listCall (given s) (s .args .job) p (keys (listed (s .args .r)))) (k .procedure-for .ensures) in
-    tells-list (given s) (s .args .job) (s .args .change) (s .args .r) (s .pre) (fine k .0) _ _ _ list (c .with-turns .ensures)
+    let list = carried .carry-rectangle .ensures ∙ ap (λ p. listCall (given s) (s .args .job) (s .args .sheet) p (keys (listed (s .args .r)))) (k .procedure-for .ensures) in
+    tells-list (given s) (s .args .job) (s .args .sheet) (s .args .change) (s .args .r) (s .pre) (fine k .0) _ _ _ list (c .with-turns .ensures)
 
 pub carry-shaped-spec : {M : Type 1} → statement M
 carry-shaped-spec =

@@ -12,12 +12,12 @@ use Rattle.placing.proofs.place_all.Tie as tie
 use Rattle.placing.specs.Laws.Parting.{run-may, run-more}
 
 abbrev Inv-loop : tie.InvT-loop
-Inv-loop tiles₀ operations₀ journal₀ job procedure keys n reached₀ i₀ tiles operations journal reached i =
+Inv-loop tiles₀ operations₀ journal₀ job sheet procedure keys n reached₀ i₀ tiles operations journal reached i =
     (i ≤ n) × (n ≤ length keys)
-    × Ahead job procedure (world reached₀ tiles₀ operations₀ journal₀) (take n keys) (world reached tiles operations journal) (slice i n keys)
+    × Ahead job sheet procedure (world reached₀ tiles₀ operations₀ journal₀) (take n keys) (world reached tiles operations journal) (slice i n keys)
 
 abbrev μ-loop : tie.MeasureT-loop
-μ-loop tiles₀ operations₀ journal₀ job procedure keys n reached₀ i₀ tiles operations journal reached i = n - i
+μ-loop tiles₀ operations₀ journal₀ job sheet procedure keys n reached₀ i₀ tiles operations journal reached i = n - i
 
 loop-holds : tie.Need-loop-holds Inv-loop μ-loop
 loop-holds c = let s = c .before .before .before .before in (omega arith, s .pre .0, s .pre .1)

@@ -29,7 +29,7 @@ same-length-3 c = search needs
 returns : tie.Need-returns
 returns c =
     let s = c .before .before .before .before .before .before .before .before .before in
-    gate-told (given s) (s .args .job) (s .args .change) (s .args .r) _ (c .before .before .end-reply .ensures) (test-fails (c .before .accepted .ensures) (c .if1 .taken))
+    gate-told (given s) (s .args .job) (s .args .sheet) (s .args .change) (s .args .r) _ (c .before .before .end-reply .ensures) (test-fails (c .before .accepted .ensures) (c .if1 .taken))
 
 carry-shaped-requires : tie.Need-carry-shaped-requires
 carry-shaped-requires c κs =

@@ -43,7 +43,7 @@ returns-2 c =
     let s = t .before .before .before in
     let r = s .args .r in
     let bounds = t .struct-told .given in
-    ap₂ {C = Told} (λ x y. record { number = 0; answer = 0; holder = 0; turns = x; last = y })
+    ap₂ {C = Told} (λ x y. record { number = 0; answer = 0; holder = 0; sheet = 0; turns = x; last = y })
     (turns-back (r .west) _ _ (bounds .1 .1 .0 .1) (first .turns .ensures)) (turns-back (r .east) _ _ (bounds .1 .1 .1 .0 .1) (c .turns2 .ensures))
     ∙ sym (ap (λ b. cond b (covered r) (told (s .args .reply))) (test-passes (t .before .before .accepted .ensures) (t .before .if1 .left)))
 

@@ -57,7 +57,7 @@ module _ (w : World) (job : ℕ) (t : Told) (gate : t ≡ decided (endRefusals w
       (decided-done (endRefusals w job) (done false (pos 0)) (numbered w (committing job)) (ap (λ (x : Told). x .number) (sym gate) ∙ eqb-true (t .number) 0 zero)) in
       record { is-sound-there = not-false _ (h .0); small = ltb-false 63 job (h .1 .0); is-open = not-false _ (h .1 .1 .0) }
 
-module _ (w : World) (job : ℕ) (change : Change) (r : Rectangle) where
+module _ (w : World) (job sheet : ℕ) (change : Change) (r : Rectangle) where
   abbrev p : Procedure
   p = procedureFor change
 
@@ -68,40 +68,40 @@ module _ (w : World) (job : ℕ) (change : Change) (r : Rectangle) where
   abbrev later : List Refusal
   later = refuse 14 (misnamed r) ∷ refuse 5 (outOfRange r) ∷ refuse 13 (misshapen r) ∷ listRefusals w job p ks
 
-  call-is : rectangleCall w job change r ≡ listAfter w job p ks (decided (rectangleRefusals w job p r) (covered r))
+  call-is : rectangleCall w job sheet change r ≡ listAfter w job sheet p ks (decided (rectangleRefusals w job p r) (covered r))
   unfolding rectangleCall
   call-is = refl
 
-  pub gate-told : (t : Told) → t ≡ decided (endRefusals w job) (done false (pos 0)) → eqb (t .number) 0 ≡ false → record { told = t; after = w } ≡ rectangleCall w job change r
+  pub gate-told : (t : Told) → t ≡ decided (endRefusals w job) (done false (pos 0)) → eqb (t .number) 0 ≡ false → record { told = t; after = w } ≡ rectangleCall w job sheet change r
   gate-told t gate f =
       let whole : t ≡ decided (rectangleRefusals w job p r) (covered r) =
       gate
       ∙ gate-refuses (endRefusals w job) (done false (pos 0)) (decided later (covered r)) refl (ap (λ (x : Told). eqb (x .number) 0) (sym gate) ∙ f)
       ∙ sym (decided-append (endRefusals w job) later (covered r)) in
-      ap {B = Reported} (λ b. record { told = t; after = cond b (carriedAll w job p ks) w }) (sym f) ∙ ap (listAfter w job p ks) whole ∙ sym call-is
+      ap {B = Reported} (λ b. record { told = t; after = cond b (carriedAll w job sheet p ks) w }) (sym f) ∙ ap (listAfter w job sheet p ks) whole ∙ sym call-is
 
   module _ (ready : Serves w job) where
     past-gate : decided (rectangleRefusals w job p r) (covered r) ≡ decided later (covered r)
     past-gate = rw (ready .is-sound-there, le-ltb 63 job (ready .small), ready .is-open)
 
-    pub tells-fourteen : misnamed r ≡ true → record { told = bare 14; after = w } ≡ rectangleCall w job change r
+    pub tells-fourteen : misnamed r ≡ true → record { told = bare 14; after = w } ≡ rectangleCall w job sheet change r
     tells-fourteen e =
         let t : bare 14 ≡ decided (rectangleRefusals w job p r) (covered r) = sym (past-gate ∙ rw e) in
-        ap (listAfter w job p ks) t ∙ sym call-is
+        ap (listAfter w job sheet p ks) t ∙ sym call-is
 
-    pub tells-five : (misnamed r ≡ false) × (outOfRange r ≡ true) → record { told = bare 5; after = w } ≡ rectangleCall w job change r
+    pub tells-five : (misnamed r ≡ false) × (outOfRange r ≡ true) → record { told = bare 5; after = w } ≡ rectangleCall w job sheet change r
     tells-five e =
         let t : bare 5 ≡ decided (rectangleRefusals w job p r) (covered r) = sym (past-gate ∙ rw (e .0, e .1)) in
-        ap (listAfter w job p ks) t ∙ sym call-is
+        ap (listAfter w job sheet p ks) t ∙ sym call-is
 
-    pub tells-thirteen : (misnamed r ≡ false) × (outOfRange r ≡ false) × (misshapen r ≡ true) → record { told = bare 13; after = w } ≡ rectangleCall w job change r
+    pub tells-thirteen : (misnamed r ≡ false) × (outOfRange r ≡ false) × (misshapen r ≡ true) → record { told = bare 13; after = w } ≡ rectangleCall w job sheet change r
     tells-thirteen e =
         let t : bare 13 ≡ decided (rectangleRefusals w job p r) (covered r) = sym (past-gate ∙ rw (e .0, e .1, e .2)) in
-        ap (listAfter w job p ks) t ∙ sym call-is
+        ap (listAfter w job sheet p ks) t ∙ sym call-is
 
     -- a list that is done tells the turns, and a refusal what it told
-    pub tells-list : Shaped r → (t x : Told) (v : World) → record { told = t; after = v } ≡ listCall w job p ks → x ≡ turnsAdded r t
-        → record { told = x; after = v } ≡ rectangleCall w job change r
+    pub tells-list : Shaped r → (t x : Told) (v : World) → record { told = t; after = v } ≡ listCall w job sheet p ks → x ≡ turnsAdded r t
+        → record { told = x; after = v } ≡ rectangleCall w job sheet change r
     unfolding listCall
     tells-list s t x v e added =
         let list : Told = decided (listRefusals w job p ks) (bare 0) in
@@ -110,8 +110,8 @@ module _ (w : World) (job : ℕ) (change : Change) (r : Rectangle) where
         ∙ sym (past-gate ∙ (λ i. decided (refuse 14 (not (s .of-edition i)) ∷ refuse 5 (s .in-range i) ∷ refuse 13 (s .well-formed i) ∷ listRefusals w job p ks) (covered r))) in
         ap {B = Reported} (λ y. record { told = y; after = v }) added
         ∙ ap (λ (y : Reported). record { told = turnsAdded r (y .told); after = y .after }) e
-        ∙ ap {B = Reported} (λ b. record { told = turnsAdded r list; after = cond b (carriedAll w job p ks) w }) (same-number list (eqb (list .number) 0) refl)
-        ∙ ap (listAfter w job p ks) whole
+        ∙ ap {B = Reported} (λ b. record { told = turnsAdded r list; after = cond b (carriedAll w job sheet p ks) w }) (same-number list (eqb (list .number) 0) refl)
+        ∙ ap (listAfter w job sheet p ks) whole
         ∙ sym call-is
       where
         same-number : (t : Told) (b : Bool) → eqb (t .number) 0 ≡ b → eqb (t .number) 0 ≡ eqb (turnsAdded r t .number) 0

@@ -22,18 +22,18 @@ use Rattle.placing.specs.Passes.{Carries, listCall}
 pub list-numbered : (w : World) (job : ℕ) (p : Procedure) (ks : List ℕ) → All Numbered (listRefusals w job p ks)
 list-numbered w job p ks = (held-numbered (firstHeld (w .session .rule) (state w .book) job p ks), (refl, (refl, (refl, tt))))
 
-module _ (w : World) (job : ℕ) (p : Procedure) (ks : List ℕ) (t : Told) (same : t ≡ decided (listRefusals w job p ks) (bare 0)) where
-  list-reports : (b : Bool) → eqb (t .number) 0 ≡ b → record { told = t; after = cond b (carriedAll w job p ks) w } ≡ listCall w job p ks
+module _ (w : World) (job sheet : ℕ) (p : Procedure) (ks : List ℕ) (t : Told) (same : t ≡ decided (listRefusals w job p ks) (bare 0)) where
+  list-reports : (b : Bool) → eqb (t .number) 0 ≡ b → record { told = t; after = cond b (carriedAll w job sheet p ks) w } ≡ listCall w job sheet p ks
   unfolding listCall
   list-reports b h =
-      ap₂ {C = Reported} (λ (x : Told) b. record { told = x; after = cond b (carriedAll w job p ks) w }) same
+      ap₂ {C = Reported} (λ (x : Told) b. record { told = x; after = cond b (carriedAll w job sheet p ks) w }) same
       (sym h ∙ ap (λ (x : Told). eqb (x .number) 0) same)
 
-  pub list-refused : eqb (t .number) 0 ≡ false → record { told = t; after = w } ≡ listCall w job p ks
+  pub list-refused : eqb (t .number) 0 ≡ false → record { told = t; after = w } ≡ listCall w job sheet p ks
   list-refused h = list-reports false h
 
   module _ (zero : eqb (t .number) 0 ≡ true) where
-    pub list-done : (v : World) → v ≡ carriedAll w job p ks → record { told = t; after = v } ≡ listCall w job p ks
+    pub list-done : (v : World) → v ≡ carriedAll w job sheet p ks → record { told = t; after = v } ≡ listCall w job sheet p ks
     list-done v is = ap {B = Reported} (λ x. record { told = t; after = x }) is ∙ list-reports true zero
 
     list-fits : Serves w job → Fits w job p ks
@@ -49,6 +49,6 @@ module _ (w : World) (job : ℕ) (p : Procedure) (ks : List ℕ) (t : Told) (sam
         }
 
 -- the list of n keys that the call was given
-pub list-ahead : (w : World) (job : ℕ) (p : Procedure) (l : List ℕ) (n : ℕ) → Carries w job l n → length (w .session .marks) ≡ 64
-    → (t : Told) → t ≡ decided (listRefusals w job p (take n l)) (bare 0) → eqb (t .number) 0 ≡ true → Ahead job p w (take n l) w (take n l)
-list-ahead w job p l n c full t same zero = ahead-start w (take n l) full (c .valid) (c .apart) (list-fits w job p (take n l) t same zero (c .ready))
+pub list-ahead : (w : World) (job sheet : ℕ) (p : Procedure) (l : List ℕ) (n : ℕ) → Carries w job l n → length (w .session .marks) ≡ 64
+    → (t : Told) → t ≡ decided (listRefusals w job p (take n l)) (bare 0) → eqb (t .number) 0 ≡ true → Ahead job sheet p w (take n l) w (take n l)
+list-ahead w job sheet p l n c full t same zero = ahead-start w (take n l) full (c .valid) (c .apart) (list-fits w job sheet p (take n l) t same zero (c .ready))

@@ -53,8 +53,8 @@ fits-first w job p xs ys f =
       bytes = let x = f .bytes in omega arith;
     }
 
-module _ {job : ℕ} {p : Procedure} {w₀ : World} {ks₀ : List ℕ} where
-  ahead-first : (w : World) (xs ys : List ℕ) → Ahead job p w₀ ks₀ w (xs ++ ys) → Ahead job p w xs w xs
+module _ {job sheet : ℕ} {p : Procedure} {w₀ : World} {ks₀ : List ℕ} where
+  ahead-first : (w : World) (xs ys : List ℕ) → Ahead job sheet p w₀ ks₀ w (xs ++ ys) → Ahead job sheet p w xs w xs
   ahead-first w xs ys a =
       record {
         valid = all-first (λ k. isKey k ≡ true) xs ys (a .valid);
@@ -68,7 +68,7 @@ module _ {job : ℕ} {p : Procedure} {w₀ : World} {ks₀ : List ℕ} where
       }
 
   -- and the second behind it
-  ahead-along : (w : World) (xs ys : List ℕ) → Ahead job p w₀ ks₀ w (xs ++ ys) → Ahead job p w₀ ks₀ (carriedAll w job p xs) ys
+  ahead-along : (w : World) (xs ys : List ℕ) → Ahead job sheet p w₀ ks₀ w (xs ++ ys) → Ahead job sheet p w₀ ks₀ (carriedAll w job sheet p xs) ys
   ahead-along w [] ys a = a
   ahead-along w (x ∷ xs) ys a = ahead-along _ xs ys (ahead-more x (xs ++ ys) a)
 
@@ -85,20 +85,20 @@ run-split l i e n a b =
     sym (take-append-drop (e - i) (slice i n l))
     ∙ ap₂ (λ (x y : List ℕ). x ++ y) (front-drop (e - i) i n l (omega arith)) (drop-drop (e - i) i (take n l) ∙ ap (λ k. drop k (take n l)) there)
 
-module _ {job : ℕ} {p : Procedure} {w₀ w : World} {ks₀ : List ℕ} (l : List ℕ) (n i e : ℕ) (a : Ahead job p w₀ ks₀ w (slice i n l)) (some : i ≤ e) (within : e ≤ n) where
+module _ {job sheet : ℕ} {p : Procedure} {w₀ w : World} {ks₀ : List ℕ} (l : List ℕ) (n i e : ℕ) (a : Ahead job sheet p w₀ ks₀ w (slice i n l)) (some : i ≤ e) (within : e ≤ n) where
   abbrev run : List ℕ
   run = take (e - i) (drop i l)
 
-  parted : Ahead job p w₀ ks₀ w (run ++ slice e n l)
-  parted = subst (Ahead job p w₀ ks₀ w) (run-split l i e n some within) a
+  parted : Ahead job sheet p w₀ ks₀ w (run ++ slice e n l)
+  parted = subst (Ahead job sheet p w₀ ks₀ w) (run-split l i e n some within) a
 
-  pub run-may : Ahead job p w run w run
+  pub run-may : Ahead job sheet p w run w run
   run-may = ahead-first w run (slice e n l) parted
 
-  pub run-more : (v : World) → v ≡ carriedAll w job p run → Ahead job p w₀ ks₀ v (slice e n l)
-  run-more v is = subst (λ x. Ahead job p w₀ ks₀ x (slice e n l)) (sym is) (ahead-along w run (slice e n l) parted)
+  pub run-more : (v : World) → v ≡ carriedAll w job sheet p run → Ahead job sheet p w₀ ks₀ v (slice e n l)
+  run-more v is = subst (λ x. Ahead job sheet p w₀ ks₀ x (slice e n l)) (sym is) (ahead-along w run (slice e n l) parted)
 
 -- what was noted of a run, with its tiles moved
-pub run-done : {w : World} {job : ℕ} {p : Procedure} {ks : List ℕ} {s : Session} {o j : List ℕ} (t : List ℕ) → Noted w job p ks s o j
-    → t ≡ padded (length (w .tiles)) (tilesLeft w p ks) → world s t o j ≡ carriedAll w job p ks
+pub run-done : {w : World} {job sheet : ℕ} {p : Procedure} {ks : List ℕ} {s : Session} {o j : List ℕ} (t : List ℕ) → Noted w job sheet p ks s o j
+    → t ≡ padded (length (w .tiles)) (tilesLeft w p ks) → world s t o j ≡ carriedAll w job sheet p ks
 run-done {s = s} {o = o} {j = j} t n is = ap (λ x. world s x o j) is ∙ n .done
