@@ -25,6 +25,7 @@ pub fn print_reply(beginning: &[u8], reply: Reply) {
     print_named(beginning, told.number as u64);
     print_named(b" answer ", told.answer as u64);
     print_named(b" holder ", told.holder as u64);
+    print_named(b" sheet ", told.sheet as u64);
     print_signed(b" turns ", told.turns);
     print_line_end();
 }
@@ -34,6 +35,7 @@ pub fn print_whole(reply: Reply) {
     let told = sanbirogu::numbers(reply);
     print_named(b"reply ", told.number as u64);
     print_named(b" holder ", told.holder as u64);
+    print_named(b" sheet ", told.sheet as u64);
     print_signed(b" turns ", told.turns);
     print_signed(b" ", told.last);
     print_line_end();
@@ -58,9 +60,10 @@ fn print_unplaced(beginning: &[u8], number: u64) {
     print(b" key 0 turns 0");
 }
 
-fn print_operation(operation: Operation) {
+// An operation, after this beginning.
+fn print_operation(beginning: &[u8], operation: Operation) {
     let procedure = operation.procedure;
-    print_named(b"operation ", operation.job as u64);
+    print_named(beginning, operation.job as u64);
     print_named(b" ", sanbirogu::procedure_byte(procedure) as u64);
     print_named(b" ", operation.answer as u64);
     print_named(b" ", operation.key as u64);
@@ -69,7 +72,11 @@ fn print_operation(operation: Operation) {
 fn print_record(noted: Record) {
     match noted {
         Record::Open(job) => print_named(b"open ", job as u64),
-        Record::Performed(operation) => print_operation(operation),
+        Record::Performed(operation) => print_operation(b"operation ", operation),
+        Record::Sheeted { operation, sheet } => {
+            print_operation(b"sheeted ", operation);
+            print_named(b" ", sheet as u64);
+        }
         Record::Commit(job) => print_named(b"commit ", job as u64),
         Record::Abort(job) => print_named(b"abort ", job as u64),
     }

@@ -10,25 +10,26 @@ use script::Command;
 use script::Word;
 use script::byte_of;
 use script::job_of;
+use script::sheet_of;
 use script::signed;
 
 fn operation_address(command: Command) -> Address {
     Address {
-        edition: byte_of(command.values[1]),
-        zoom: byte_of(command.values[2]),
-        column: signed(command.values[3], command.negative[3]),
-        row: signed(command.values[4], command.negative[4]),
+        edition: byte_of(command.values[2]),
+        zoom: byte_of(command.values[3]),
+        column: signed(command.values[4], command.negative[4]),
+        row: signed(command.values[5], command.negative[5]),
     }
 }
 
 fn rectangle_of(command: Command) -> Rectangle {
     Rectangle {
-        edition: byte_of(command.values[1]),
-        zoom: byte_of(command.values[2]),
-        west: signed(command.values[3], command.negative[3]),
-        east: signed(command.values[4], command.negative[4]),
-        top: signed(command.values[5], command.negative[5]),
-        bottom: signed(command.values[6], command.negative[6]),
+        edition: byte_of(command.values[2]),
+        zoom: byte_of(command.values[3]),
+        west: signed(command.values[4], command.negative[4]),
+        east: signed(command.values[5], command.negative[5]),
+        top: signed(command.values[6], command.negative[6]),
+        bottom: signed(command.values[7], command.negative[7]),
     }
 }
 
@@ -73,8 +74,18 @@ fn operate(
     journal: &mut [u8],
 ) -> Session {
     let job = job_of(command);
+    let sheet = sheet_of(command);
     let address = operation_address(command);
-    answered(sanbirogu::operation(session, tiles, operations, journal, job, procedure, address))
+    answered(sanbirogu::operation(
+        session,
+        tiles,
+        operations,
+        journal,
+        job,
+        sheet,
+        procedure,
+        address,
+    ))
 }
 
 fn operate_all(
@@ -86,8 +97,9 @@ fn operate_all(
     journal: &mut [u8],
 ) -> Session {
     let job = job_of(command);
+    let sheet = sheet_of(command);
     let r = rectangle_of(command);
-    answered_whole(sanbirogu::rectangle(session, tiles, operations, journal, job, change, r))
+    answered_whole(sanbirogu::rectangle(session, tiles, operations, journal, job, sheet, change, r))
 }
 
 // Answers one command on what is lent.

@@ -8,7 +8,7 @@ use sanbirogu::Rule;
 use terminal::print_line_end;
 use terminal::print_named;
 
-// A tile left of 180 degrees, and a sheet that crosses it.
+// A tile left of 180 degrees, and what a sheet covers that crosses it.
 fn place() -> Address {
     Address {
         edition: 2,
@@ -18,7 +18,7 @@ fn place() -> Address {
     }
 }
 
-fn sheet() -> Rectangle {
+fn covered() -> Rectangle {
     Rectangle {
         edition: 2,
         zoom: 8,
@@ -41,6 +41,7 @@ fn main() {
         &mut operations,
         &mut journal,
         3,
+        1204,
         Procedure::Ins,
         place(),
     );
@@ -52,8 +53,9 @@ fn main() {
         &mut operations,
         &mut journal,
         3,
+        1205,
         Change::Insert,
-        sheet(),
+        covered(),
     );
     let ended = sanbirogu::commit(put_all.session, &tiles, &mut operations, &mut journal, 3);
     let reply = ended.reply;

@@ -7,12 +7,12 @@ fn print_calls() {
     );
     print(b"start COUNT RULE              start on the first COUNT tiles, by rule 1 or 2\n");
     print(b"open JOB                      open a job, 0 to 63\n");
-    print(b"ins JOB EDITION ZOOM COLUMN ROW\n");
+    print(b"ins JOB SHEET EDITION ZOOM COLUMN ROW\n");
     print(b"                              insert a tile; del deletes it, mem asks for it;\n");
     print(
         b"                              edition 1 counts rows from the south, 2 from the north\n",
     );
-    print(b"insall JOB EDITION ZOOM WEST EAST TOP BOTTOM\n");
+    print(b"insall JOB SHEET EDITION ZOOM WEST EAST TOP BOTTOM\n");
     print(b"                              insert a rectangle of tiles; delall deletes it\n");
     print(b"commit JOB                    commit a job; abort aborts it\n");
 }

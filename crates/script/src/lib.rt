@@ -99,13 +99,17 @@ pub fn parse(line: &[u8]) -> Command {
 
 // The numbers of a command, whose types parse has seen to.
 
-// The first number as a job, and a byte at any place.
+// The first number as a job, a byte at any place, and the second number as a sheet.
 pub fn job_of(command: Command) -> u8 {
     (command.values[0] % 256) as u8
 }
 
 pub fn byte_of(value: u64) -> u8 {
     (value % 256) as u8
+}
+
+pub fn sheet_of(command: Command) -> u16 {
+    (command.values[1] % 65536) as u16
 }
 
 pub fn first(command: Command) -> usize {

@@ -1,7 +1,7 @@
 // The words of the commands, and the types of their numbers.
 
 // The most numbers of a command.
-pub const MOST_NUMBERS: usize = 7;
+pub const MOST_NUMBERS: usize = 8;
 
 pub enum Word {
     Lend,
@@ -139,35 +139,35 @@ fn change_word(line: &[u8], end: usize) -> Word {
     Word::Unknown
 }
 
-// The types of a word's numbers: a count or a key up to 2^32 - 1, a byte, a signed number, an entry up to 2^64 - 1, or none.
+// The types of a word's numbers: a count or a key up to 2^32 - 1, a byte, a sheet, a signed number, an entry up to 2^64 - 1, or none.
 pub fn types_of(word: Word) -> [u8; MOST_NUMBERS] {
     match word {
-        Word::Lend => *b"nnn----",
-        Word::Start => *b"nb-----",
-        Word::Open => *b"b------",
-        Word::Ins => *b"bbbss--",
-        Word::Del => *b"bbbss--",
-        Word::Mem => *b"bbbss--",
-        Word::InsAll => *b"bbbssss",
-        Word::DelAll => *b"bbbssss",
-        Word::Commit => *b"b------",
-        Word::Abort => *b"b------",
-        Word::Address => *b"bbss---",
-        Word::Read => *b"n------",
-        Word::Replay => *b"nn-----",
-        Word::Mend => *b"nnn----",
-        Word::Sum => *b"-------",
-        Word::Show => *b"-------",
-        Word::Help => *b"-------",
-        Word::Tile => *b"nn-----",
-        Word::Entry => *b"ne-----",
-        Word::Byte => *b"nb-----",
-        Word::Tiles => *b"n------",
-        Word::Operations => *b"n------",
-        Word::Journal => *b"n------",
-        Word::Mark => *b"bb-----",
-        Word::Rule => *b"b------",
-        Word::Unknown => *b"-------",
+        Word::Lend => *b"nnn-----",
+        Word::Start => *b"nb------",
+        Word::Open => *b"b-------",
+        Word::Ins => *b"bhbbss--",
+        Word::Del => *b"bhbbss--",
+        Word::Mem => *b"bhbbss--",
+        Word::InsAll => *b"bhbbssss",
+        Word::DelAll => *b"bhbbssss",
+        Word::Commit => *b"b-------",
+        Word::Abort => *b"b-------",
+        Word::Address => *b"bbss----",
+        Word::Read => *b"n-------",
+        Word::Replay => *b"nn------",
+        Word::Mend => *b"nnn-----",
+        Word::Sum => *b"--------",
+        Word::Show => *b"--------",
+        Word::Help => *b"--------",
+        Word::Tile => *b"nn------",
+        Word::Entry => *b"ne------",
+        Word::Byte => *b"nb------",
+        Word::Tiles => *b"n-------",
+        Word::Operations => *b"n-------",
+        Word::Journal => *b"n-------",
+        Word::Mark => *b"bb------",
+        Word::Rule => *b"b-------",
+        Word::Unknown => *b"--------",
     }
 }
 
@@ -179,6 +179,7 @@ pub fn is_of(kind: u8, value: u64, negative: bool) -> bool {
     match kind {
         b'n' => value <= 4294967295,
         b'b' => value <= 255,
+        b'h' => value <= 65535,
         b's' => value <= 2147483647,
         b'e' => true,
         _ => false,

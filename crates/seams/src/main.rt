@@ -70,6 +70,11 @@ fn procedure_of(what: u8) -> Procedure {
     }
 }
 
+// Each job corrects a sheet of its own.
+fn sheet_of(job: u8) -> u16 {
+    100 + job as u16
+}
+
 fn call(
     session: Session,
     tiles: &mut [u32],
@@ -89,6 +94,7 @@ fn call(
             operations,
             journal,
             job,
+            sheet_of(job),
             procedure_of(what),
             address_of(tile),
         ),

@@ -6,10 +6,10 @@ use Rattle.script.proofs.is_whole.Statement.{statement}
 use Rattle.script.proofs.is_whole.Tie as tie
 
 abbrev Inv-loop : tie.InvT-loop
-Inv-loop command types i₀ i = i ≤ 7
+Inv-loop command types i₀ i = i ≤ 8
 
 abbrev μ-loop : tie.MeasureT-loop
-μ-loop command types i₀ i = 7 - i
+μ-loop command types i₀ i = 8 - i
 
 types-of-requires : tie.Need-types-of-requires Inv-loop μ-loop
 types-of-requires c κs = search needs
