@@ -1,7 +1,7 @@
 //! What a session's rule decides: whether an operation is held, whether it lacks a tile place, and
 //! whether the unfinished changes of the tiles fit together.
 
-use crate::operation::{Admitted, Kind, Procedure};
+use crate::operation::{Admitted, Kind, Origin, Procedure};
 use crate::reply::Refusal;
 use crate::rule::Rule;
 use crate::state::State;
@@ -13,11 +13,11 @@ impl State {
     /// it is refused. No tile of the list decides about another, but they share the room.
     pub fn examine(
         &self,
-        job: u8,
+        origin: Origin,
         procedure: Procedure,
         tiles: &[Tile],
     ) -> Result<Vec<Admitted>, Refusal> {
-        let wanted = self.wanted(job, procedure, tiles);
+        let wanted = self.wanted(origin, procedure, tiles);
         if let Some(holder) = wanted.iter().find_map(|one| self.holder(one)) {
             return Err(Refusal::Held(holder));
         }
@@ -31,10 +31,10 @@ impl State {
     }
 
     /// The operations of a list with what they find.
-    pub fn wanted(&self, job: u8, procedure: Procedure, tiles: &[Tile]) -> Vec<Admitted> {
+    pub fn wanted(&self, origin: Origin, procedure: Procedure, tiles: &[Tile]) -> Vec<Admitted> {
         let found = |tile: &Tile| Admitted {
             kind: Kind::of(procedure, self.tiles.contains(tile)),
-            job,
+            origin,
             tile: *tile,
         };
         tiles.iter().map(found).collect()
@@ -45,11 +45,11 @@ impl State {
         wanted.iter().filter(|one| self.needs_place(one)).count()
     }
 
-    /// The job of the first unfinished operation that stands in the way of a new one.
-    fn holder(&self, wanted: &Admitted) -> Option<u8> {
+    /// The origin of the first unfinished operation that stands in the way of a new one.
+    fn holder(&self, wanted: &Admitted) -> Option<Origin> {
         let mut entries = self.admitted.iter();
         let holding = entries.find(|entry| self.holds(entry, wanted));
-        holding.map(|entry| entry.job)
+        holding.map(|entry| entry.origin)
     }
 
     /// Whether an unfinished operation stands in the way of a new one.
@@ -57,7 +57,7 @@ impl State {
         match self.rule {
             Rule::EachAlone => !wanted.commutes_with(entry.recovery()),
             Rule::JobAsOne => {
-                let others = entry.job != wanted.job;
+                let others = entry.job() != wanted.job();
                 others && entry.tile == wanted.tile && entry.kind.changes_tiles()
             }
         }
@@ -113,7 +113,7 @@ impl State {
         match self.rule {
             Rule::EachAlone => false,
             // What changes nothing has another kind than a change anyway.
-            Rule::JobAsOne => entry.job == change.job && entry.kind != change.kind,
+            Rule::JobAsOne => entry.job() == change.job() && entry.kind != change.kind,
         }
     }
 }

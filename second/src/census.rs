@@ -4,7 +4,7 @@ use crate::console::Console;
 use crate::journal::rule_of_journal;
 use crate::journals::journal;
 use crate::line::{parse, Call, Command};
-use crate::occasions::{occasions, occasions_told};
+use crate::occasions::{occasions, occasions_printed, occasions_told};
 use crate::printed::printed_replay;
 use crate::rule::Rule;
 use crate::scripts::script;
@@ -83,7 +83,7 @@ pub fn count_script(counts: &mut Counts, seed: u64, lines: usize) {
 
 fn count_command(counts: &mut Counts, console: &mut Console, command: Command, line: &[u8]) {
     for name in occasions(console, command) {
-        count(counts, name_of_occasion(name));
+        count(counts, name_of_occasion(&name));
     }
     let group = group_of(console, command);
     let answer = console.answer(line);
@@ -120,9 +120,12 @@ pub fn name_of_broken(rule: Rule, requirement: Requirement) -> String {
     format!("broken alone by rule {}: {:?}", rule.number(), requirement)
 }
 
-/// Counts where the printed replay of one journal stopped.
+/// Counts where the printed replay of one journal stopped, and the occasions.
 pub fn count_journal(counts: &mut Counts, seed: u64) {
     let bytes = journal(seed);
+    for name in occasions_printed(&bytes) {
+        count(counts, name_of_occasion(&name));
+    }
     let text = printed_replay(&bytes);
     let first = text.lines().next().unwrap_or("");
     let words: Vec<&str> = first.split(' ').collect();

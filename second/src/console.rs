@@ -5,10 +5,11 @@ use crate::address::{address_step, Address};
 use crate::journal::{Reader, Reading};
 use crate::line::{parse, Call, Change, Command};
 use crate::mend::mend;
+use crate::operation::Origin;
 use crate::picture::{help, picture};
 use crate::rectangle::{Rectangle, Sweep};
 use crate::replay::replay;
-use crate::reply::{numbers, sweep_numbers, Reply, SweepReply};
+use crate::reply::{numbers, sweep_numbers, Numbers, Reply, SweepNumbers, SweepReply};
 use crate::service;
 use crate::session::{length_of, Session, Tables};
 use crate::words::record_text;
@@ -51,8 +52,8 @@ impl Console {
         match command {
             Command::Lend(tiles, operations, journal) => self.lend(tiles, operations, journal),
             Command::Call(call) => Some(reply_line(self.call(call))),
-            Command::Sweep(job, sweep, rectangle) => {
-                Some(sweep_line(self.sweep(job, sweep, rectangle)))
+            Command::Sweep(origin, sweep, rectangle) => {
+                Some(sweep_line(self.sweep(origin, sweep, rectangle)))
             }
             Command::Address(address) => Some(address_line(address)),
             Command::Read(place) => Some(self.read(length_of(place))),
@@ -84,17 +85,17 @@ impl Console {
                 reply
             }
             Call::Open(job) => service::open(session, tables, job),
-            Call::Operate(job, procedure, address) => {
-                service::operate(session, tables, job, procedure, address)
+            Call::Operate(origin, procedure, address) => {
+                service::operate(session, tables, origin, procedure, address)
             }
             Call::Commit(job) => service::commit(session, tables, job),
             Call::Abort(job) => service::abort(session, tables, job),
         }
     }
 
-    fn sweep(&mut self, job: u8, sweep: Sweep, rectangle: Rectangle) -> SweepReply {
+    fn sweep(&mut self, origin: Origin, sweep: Sweep, rectangle: Rectangle) -> SweepReply {
         let (session, tables) = (&mut self.session, &mut self.tables);
-        service::sweep(session, tables, job, sweep, rectangle)
+        service::sweep(session, tables, origin, sweep, rectangle)
     }
 
     /// Changes something from outside; none for a place that is not lent.
@@ -188,19 +189,28 @@ fn sum_of(numbers: impl Iterator<Item = u64>) -> u64 {
 }
 
 fn reply_line(reply: Reply) -> String {
-    let (number, answer, holder, turns) = numbers(reply);
-    format!(
-        "reply {} answer {} holder {} turns {}",
-        number, answer, holder, turns
-    )
+    let Numbers {
+        number,
+        answer,
+        holder,
+        turns,
+    } = numbers(reply);
+    let held_by = holder_text(holder);
+    format!("reply {number} answer {answer} {held_by} turns {turns}")
 }
 
 fn sweep_line(reply: SweepReply) -> String {
-    let (number, holder, turns) = sweep_numbers(reply);
-    format!(
-        "reply {} holder {} turns {} {}",
-        number, holder, turns.first, turns.last
-    )
+    let SweepNumbers {
+        number,
+        holder,
+        turns,
+    } = sweep_numbers(reply);
+    let (held_by, first, last) = (holder_text(holder), turns.first, turns.last);
+    format!("reply {number} {held_by} turns {first} {last}")
+}
+
+fn holder_text(holder: Origin) -> String {
+    format!("holder {} sheet {}", holder.job, holder.sheet)
 }
 
 fn address_line(address: Address) -> String {

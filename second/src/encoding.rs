@@ -1,6 +1,6 @@
 //! The lent tables of numbers as a state, if they are sound, and a state as tables.
 
-use crate::operation::{Admitted, Kind};
+use crate::operation::{Admitted, Kind, Origin};
 use crate::rule::Rule;
 use crate::session::{count_of, length_of, Session, Tables};
 use crate::session::{JOBS, MOST_JOURNAL, MOST_OPERATIONS, MOST_TILES};
@@ -8,6 +8,7 @@ use crate::state::State;
 use crate::tile::Tile;
 use std::collections::BTreeSet;
 
+const SHEET_STEP: u64 = 1 << 48;
 const KIND_STEP: u64 = 1 << 40;
 const JOB_STEP: u64 = 1 << 32;
 
@@ -38,20 +39,20 @@ fn decode_tiles(places: &[u32], count: u32) -> Option<BTreeSet<Tile>> {
 }
 
 fn decode_entry(entry: u64, open: &BTreeSet<u8>) -> Option<Admitted> {
-    let kind = Kind::from_number(entry / KIND_STEP)?;
+    // Every sheet is sound.
+    let sheet = u16::try_from(entry / SHEET_STEP).ok()?;
+    let kind = Kind::from_number(entry % SHEET_STEP / KIND_STEP)?;
     let job = u8::try_from(entry % KIND_STEP / JOB_STEP).ok()?;
     let key = u32::try_from(entry % JOB_STEP).ok()?;
     let tile = Tile::from_key(key)?;
-    if open.contains(&job) {
-        Some(Admitted { kind, job, tile })
-    } else {
-        None
-    }
+    let origin = Origin { job, sheet };
+    Some(Admitted { kind, origin, tile }).filter(|_| open.contains(&job))
 }
 
 fn encode_entry(admitted: &Admitted) -> u64 {
-    admitted.kind.number() * KIND_STEP
-        + u64::from(admitted.job) * JOB_STEP
+    u64::from(admitted.origin.sheet) * SHEET_STEP
+        + admitted.kind.number() * KIND_STEP
+        + u64::from(admitted.job()) * JOB_STEP
         + u64::from(admitted.tile.key())
 }
 

@@ -1,7 +1,7 @@
 //! One line of the console: a word and its numbers, to the byte.
 
 use crate::address::Address;
-use crate::operation::Procedure;
+use crate::operation::{Origin, Procedure};
 use crate::rectangle::{Rectangle, Sweep};
 use crate::rule::Rule;
 
@@ -9,7 +9,7 @@ use crate::rule::Rule;
 pub enum Command {
     Lend(u32, u32, u32),
     Call(Call),
-    Sweep(u8, Sweep, Rectangle),
+    Sweep(Origin, Sweep, Rectangle),
     Address(Address),
     Read(u32),
     Replay(u32, u32),
@@ -25,7 +25,7 @@ pub enum Command {
 pub enum Call {
     Start(u32, Rule),
     Open(u8),
-    Operate(u8, Procedure, Address),
+    Operate(Origin, Procedure, Address),
     Commit(u8),
     Abort(u8),
 }
@@ -44,7 +44,7 @@ pub enum Change {
 }
 
 /// No command has more numbers than this, and no word or number of one more bytes.
-const MOST_NUMBERS: usize = 7;
+const MOST_NUMBERS: usize = 8;
 const LONGEST_WORD: usize = "operations".len();
 const LONGEST_NUMBER: usize = "18446744073709551615".len();
 
@@ -68,8 +68,8 @@ fn parse_other(word: &[u8], numbers: &[&[u8]]) -> Option<Command> {
         (b"lend", [tiles, operations, journal]) => {
             Command::Lend(count(tiles)?, count(operations)?, count(journal)?)
         }
-        (b"insall", [job, place @ ..]) => swept(job, Sweep::Insert, place)?,
-        (b"delall", [job, place @ ..]) => swept(job, Sweep::Delete, place)?,
+        (b"insall", numbers) => swept(Sweep::Insert, numbers)?,
+        (b"delall", numbers) => swept(Sweep::Delete, numbers)?,
         (b"address", place) => Command::Address(address(place)?),
         (b"read", [place]) => Command::Read(count(place)?),
         (b"replay", [tiles, length]) => Command::Replay(count(tiles)?, count(length)?),
@@ -87,9 +87,9 @@ fn parse_call(word: &[u8], numbers: &[&[u8]]) -> Option<Call> {
     Some(match (word, numbers) {
         (b"start", [tiles, number]) => Call::Start(count(tiles)?, rule(number)?),
         (b"open", [job]) => Call::Open(small(job)?),
-        (b"ins", [job, place @ ..]) => operate(job, Procedure::Insert, place)?,
-        (b"del", [job, place @ ..]) => operate(job, Procedure::Delete, place)?,
-        (b"mem", [job, place @ ..]) => operate(job, Procedure::Member, place)?,
+        (b"ins", numbers) => operate(Procedure::Insert, numbers)?,
+        (b"del", numbers) => operate(Procedure::Delete, numbers)?,
+        (b"mem", numbers) => operate(Procedure::Member, numbers)?,
         (b"commit", [job]) => Call::Commit(small(job)?),
         (b"abort", [job]) => Call::Abort(small(job)?),
         _ => return None,
@@ -110,12 +110,25 @@ fn parse_change(word: &[u8], numbers: &[&[u8]]) -> Option<Change> {
     })
 }
 
-fn operate(job: &[u8], procedure: Procedure, place: &[&[u8]]) -> Option<Call> {
-    Some(Call::Operate(small(job)?, procedure, address(place)?))
+fn operate(procedure: Procedure, numbers: &[&[u8]]) -> Option<Call> {
+    let (origin, place) = origin(numbers)?;
+    Some(Call::Operate(origin, procedure, address(place)?))
 }
 
-fn swept(job: &[u8], sweep: Sweep, place: &[&[u8]]) -> Option<Command> {
-    Some(Command::Sweep(small(job)?, sweep, rectangle(place)?))
+fn swept(sweep: Sweep, numbers: &[&[u8]]) -> Option<Command> {
+    let (origin, place) = origin(numbers)?;
+    Some(Command::Sweep(origin, sweep, rectangle(place)?))
+}
+
+/// The job and the sheet, and the numbers behind them.
+fn origin<'a, 'b>(numbers: &'a [&'b [u8]]) -> Option<(Origin, &'a [&'b [u8]])> {
+    match numbers {
+        [job, number, place @ ..] => {
+            let (job, sheet) = (small(job)?, sheet(number)?);
+            Some((Origin { job, sheet }, place))
+        }
+        _ => None,
+    }
 }
 
 fn rectangle(numbers: &[&[u8]]) -> Option<Rectangle> {
@@ -162,6 +175,10 @@ fn count(text: &[u8]) -> Option<u32> {
 
 fn small(text: &[u8]) -> Option<u8> {
     natural(text).and_then(|value| u8::try_from(value).ok())
+}
+
+fn sheet(text: &[u8]) -> Option<u16> {
+    natural(text).and_then(|value| u16::try_from(value).ok())
 }
 
 fn bit(text: &[u8]) -> Option<bool> {

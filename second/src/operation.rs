@@ -122,15 +122,27 @@ impl Recovery {
     }
 }
 
+/// Whose operation it is: the job's that does it, for the sheet that its call gives. Nothing but
+/// the name of a holder depends on the sheet.
+#[derive(Clone, Copy, Debug, Default, PartialEq, Eq)]
+pub struct Origin {
+    pub job: u8,
+    pub sheet: u16,
+}
+
 /// An operation that was admitted and is not finished yet.
 #[derive(Clone, Copy, Debug, PartialEq, Eq)]
 pub struct Admitted {
     pub kind: Kind,
-    pub job: u8,
+    pub origin: Origin,
     pub tile: Tile,
 }
 
 impl Admitted {
+    pub fn job(&self) -> u8 {
+        self.origin.job
+    }
+
     pub fn recovery(&self) -> Recovery {
         match self.kind {
             Kind::Added => Recovery::Delete(self.tile),

@@ -13,11 +13,11 @@ pub const COMMANDS: [&str; 25] = [
     "open job  opens a job, 0 to 63",
     "commit job  keeps what the job did",
     "abort job  undoes what the job did",
-    "ins job edition zoom column row  inserts a tile",
-    "del job edition zoom column row  deletes a tile",
-    "mem job edition zoom column row  asks for a tile",
-    "insall job edition zoom west east top bottom  inserts a rectangle",
-    "delall job edition zoom west east top bottom  deletes a rectangle",
+    "ins job sheet edition zoom column row  inserts a tile",
+    "del job sheet edition zoom column row  deletes a tile",
+    "mem job sheet edition zoom column row  asks for a tile",
+    "insall job sheet edition zoom west east top bottom  inserts a rectangle",
+    "delall job sheet edition zoom west east top bottom  deletes a rectangle",
     "address edition zoom column row  the key of an address, and its turns",
     "read place  reads a record of the journal",
     "replay count length  replays the first bytes of the journal onto the tile table",
@@ -76,8 +76,9 @@ fn key_text(key: u32) -> String {
 }
 
 fn entry_text(entry: u64) -> String {
-    let (kind, job, key) = (entry >> 40, entry >> 32 & 0xFF, entry & 0xFFFF_FFFF);
-    format!("  kind {} job {} key {}", kind, job, key)
+    let (sheet, kind, job) = (entry >> 48, entry >> 40 & 0xFF, entry >> 32 & 0xFF);
+    let key = entry & 0xFFFF_FFFF;
+    format!("  sheet {sheet} kind {kind} job {job} key {key}")
 }
 
 fn journal_lines(journal: &[u8]) -> Vec<String> {

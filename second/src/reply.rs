@@ -1,4 +1,6 @@
-//! Replies of the service, by their numbers in the scope paper.
+//! Replies of the service, by their numbers in the papers.
+
+use crate::operation::Origin;
 
 /// Why a call was refused, in the order of checking.
 #[derive(Clone, Copy, Debug, PartialEq, Eq)]
@@ -10,7 +12,7 @@ pub enum Refusal {
     UnknownEdition,
     OutsideRange,
     WrongRectangle,
-    Held(u8),
+    Held(Origin),
     NoTileRoom,
     OperationsFull,
     NoJournalRoom,
@@ -33,12 +35,12 @@ impl Refusal {
         }
     }
 
-    /// The holder's job number, 0 for every refusal that names none.
-    pub fn holder(self) -> u8 {
-        if let Refusal::Held(job) = self {
-            job
+    /// Whose entry holds; job 0 and sheet 0 for every refusal that names none.
+    pub fn holder(self) -> Origin {
+        if let Refusal::Held(holder) = self {
+            holder
         } else {
-            0
+            Origin::default()
         }
     }
 }
@@ -68,11 +70,27 @@ impl Answer {
 
 pub type Reply = Result<Answer, Refusal>;
 
-/// The reply as its number, answer, holder and turns.
-pub fn numbers(reply: Reply) -> (u8, u8, u8, i32) {
+/// The fields of a reply, with 0 in those that its number does not call for.
+#[derive(Clone, Copy, Debug, Default, PartialEq, Eq)]
+pub struct Numbers {
+    pub number: u8,
+    pub answer: u8,
+    pub holder: Origin,
+    pub turns: i32,
+}
+
+pub fn numbers(reply: Reply) -> Numbers {
     match reply {
-        Ok(answer) => (0, answer.number(), 0, answer.turns()),
-        Err(refusal) => (refusal.number(), 0, refusal.holder(), 0),
+        Ok(answer) => Numbers {
+            answer: answer.number(),
+            turns: answer.turns(),
+            ..Numbers::default()
+        },
+        Err(refusal) => Numbers {
+            number: refusal.number(),
+            holder: refusal.holder(),
+            ..Numbers::default()
+        },
     }
 }
 
@@ -86,10 +104,24 @@ pub struct Span {
 /// A rectangle answers its turns and nothing else.
 pub type SweepReply = Result<Span, Refusal>;
 
-/// The reply to a rectangle as its number, holder and turns.
-pub fn sweep_numbers(reply: SweepReply) -> (u8, u8, Span) {
+/// The fields of a reply to a rectangle.
+#[derive(Clone, Copy, Debug, Default, PartialEq, Eq)]
+pub struct SweepNumbers {
+    pub number: u8,
+    pub holder: Origin,
+    pub turns: Span,
+}
+
+pub fn sweep_numbers(reply: SweepReply) -> SweepNumbers {
     match reply {
-        Ok(turns) => (0, 0, turns),
-        Err(refusal) => (refusal.number(), refusal.holder(), Span::default()),
+        Ok(turns) => SweepNumbers {
+            turns,
+            ..SweepNumbers::default()
+        },
+        Err(refusal) => SweepNumbers {
+            number: refusal.number(),
+            holder: refusal.holder(),
+            ..SweepNumbers::default()
+        },
     }
 }

@@ -65,8 +65,12 @@ pub fn requirements_of(rule: Rule) -> impl Iterator<Item = Requirement> {
     REQUIREMENTS.iter().copied().filter(asked)
 }
 
+pub fn sheet_of(entry: u64) -> u16 {
+    (entry >> 48) as u16
+}
+
 pub fn kind_of(entry: u64) -> u64 {
-    entry >> 40
+    entry >> 40 & 0xFF
 }
 
 pub fn job_of(entry: u64) -> usize {

@@ -40,14 +40,15 @@ impl State {
 
     /// Ends a job and keeps what it did.
     pub fn commit(&mut self, job: u8) {
-        self.admitted.retain(|entry| entry.job != job);
+        self.admitted.retain(|entry| entry.job() != job);
         self.open.remove(&job);
     }
 
     /// Ends a job and undoes what it did. Newest first: by rule 2 a job may have changed a tile
     /// more than once.
     pub fn abort(&mut self, job: u8) {
-        for entry in self.admitted.iter().rev().filter(|entry| entry.job == job) {
+        let own = |entry: &&Admitted| entry.job() == job;
+        for entry in self.admitted.iter().rev().filter(own) {
             entry.recovery().run(&mut self.tiles);
         }
         self.commit(job);

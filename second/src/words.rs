@@ -1,22 +1,29 @@
 //! Records of the journal in the console's words.
 
-use crate::journal::Record;
+use crate::journal::{Record, Recorded};
 use crate::rule::Rule;
 
 pub fn record_text(record: Record) -> String {
     match record {
         Record::Open(job) => format!("open {}", job),
-        Record::Operation {
-            job,
-            procedure,
-            ok,
-            tile,
-        } => {
-            let (procedure, answer) = (procedure.number(), u8::from(ok));
-            format!("operation {} {} {} {}", job, procedure, answer, tile.key())
-        }
+        Record::Operation(recorded) => operation_text(recorded),
         Record::Commit(job) => format!("commit {}", job),
         Record::Abort(job) => format!("abort {}", job),
         Record::JobAsOne => format!("rule {}", Rule::JobAsOne.number()),
+    }
+}
+
+/// The word tells a record with a sheet from an old one.
+fn operation_text(recorded: Recorded) -> String {
+    let numbers = format!(
+        "{} {} {} {}",
+        recorded.job,
+        recorded.procedure.number(),
+        u8::from(recorded.ok),
+        recorded.tile.key()
+    );
+    match recorded.sheet {
+        None => format!("operation {}", numbers),
+        Some(sheet) => format!("sheeted {} {}", numbers, sheet),
     }
 }

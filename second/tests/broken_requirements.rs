@@ -77,10 +77,10 @@ const CHANGES: [(Requirement, Change); 20] = [
         bench.tables.operations[0] |= 7 << 40
     }),
     (Requirement::EntryKind, |bench| {
-        bench.tables.operations[0] |= 1 << 63
+        bench.tables.operations[0] |= 1 << 47
     }),
     (Requirement::EntryKind, |bench| {
-        bench.tables.operations[0] &= 0xFFFF_FFFF
+        bench.tables.operations[0] &= !(0xFF << 40)
     }),
     (Requirement::EntryJob, |bench| {
         bench.tables.operations[0] |= 1 << 32

@@ -3,7 +3,7 @@
 mod common;
 
 use common::{tile, A, B, TABLE};
-use second::operation::{Admitted, Kind, Procedure, Recovery, KINDS};
+use second::operation::{Admitted, Kind, Origin, Procedure, Recovery, KINDS};
 use second::strictness::{commutes, inverse, step_on, Step, Tiles};
 
 fn recoveries() -> [Recovery; 5] {
@@ -39,7 +39,7 @@ fn all_thirty_entries() {
     for (kind, row) in KINDS.iter().zip(TABLE) {
         let admitted = Admitted {
             kind: *kind,
-            job: 0,
+            origin: Origin::default(),
             tile: tile(A),
         };
         for (recovery, due) in recoveries().iter().zip(row) {
@@ -67,7 +67,7 @@ fn recoveries_and_answers_of_the_kinds() {
         let (procedure, present) = procedure_of(kind);
         let admitted = Admitted {
             kind,
-            job: 0,
+            origin: Origin::default(),
             tile: tile(A),
         };
         let found: Tiles = Some(tile(A)).filter(|_| present).into_iter().collect();

@@ -9,7 +9,7 @@ use second::picture::COMMANDS;
 
 /// Lines that are no command where 2 tile places, 3 operation places and 60 bytes are lent.
 #[rustfmt::skip]
-const BAD_LINES: [&[u8]; 103] = [
+const BAD_LINES: [&[u8]; 109] = [
     b"", b" ", b"sum ", b" sum", b"sum 0", b"SUM", b"sum\r", b"sum\t", b"open", b"open  1",
     b"open 1 ", b"open 01", b"open +1", b"open -1", b"open 256", b"open 1 2", b"open\t1",
     b"open 1\r", b"open \xff", b"\xffopen 1", b"open 0x1", b"start 4294967296 1", b"start -1 1",
@@ -22,12 +22,14 @@ const BAD_LINES: [&[u8]; 103] = [
     b"lend 5001 1 1", b"lend 1 1201 1", b"lend 1 1 66001", b"lend 1 1", b"lend 1 1 1 1",
     b"read 4294967296", b"read", b"replay 0 61", b"replay 0", b"replay 0 0 0", b"tiles -1",
     b"operations 4294967296", b"journal 00", b"commit", b"abort 1 1",
-    b"ins 1 4 0 0", b"ins 1 2 4 0 0 0", b"ins 256 2 4 0 0", b"ins", b"ins     ",
-    b"ins 1 256 4 0 0", b"mem 1 -2 4 0 0",
+    b"ins 1 2 4 0 0", b"ins 1 7 2 4 0 0 0", b"ins 256 7 2 4 0 0", b"ins", b"ins     ",
+    b"ins 1 7 256 4 0 0", b"mem 1 7 -2 4 0 0", b"ins 1 65536 2 4 0 0", b"ins 1 -1 2 4 0 0",
+    b"ins 1 07 2 4 0 0", b"ins 1  2 4 0 0",
     b"start", b"start 0", b"start 0 0", b"start 0 3", b"start 0 01", b"start 0 1 1", b"start 0 256",
-    b"insall", b"insall 1 4 0 0 0 0", b"insall 1 2 4 0 0 0 0 0", b"insall 1 2 4 0 0 0 -0",
-    b"insall 1 256 4 0 0 0 0", b"delall 1 1e 4 0 0 0 0", b"delall 1 2 256 0 0 0 0",
-    b"delall 1 2 4 0 2147483648 0 0", b"memall 1 2 4 0 0 0 0",
+    b"insall", b"insall 1 2 4 0 0 0 0", b"insall 1 7 2 4 0 0 0 0 0", b"insall 1 7 2 4 0 0 0 -0",
+    b"insall 1 7 256 4 0 0 0 0", b"delall 1 7 1e 4 0 0 0 0", b"delall 1 7 2 256 0 0 0 0",
+    b"delall 1 7 2 4 0 2147483648 0 0", b"memall 1 7 2 4 0 0 0 0",
+    b"insall 1 65536 2 4 0 0 0 0", b"delall 1 -7 2 4 0 0 0 0",
     b"mend 0 0", b"mend 0 0 0 0", b"mend 0 61 0", b"mend 0 0 66001", b"mend 0 0 4294967296",
     b"rule", b"rule 0", b"rule 3", b"rule 1 1",
     b"help ", b" help", b"help 1", b"Help", b"helps", b"show ", b"show 1", b"show\r",
@@ -49,7 +51,7 @@ fn what_is_no_command_is_answered_by_a_question_mark() {
 #[test]
 fn numbers_at_the_end_of_their_types_are_numbers() {
     let good = [
-        ("open 255", "reply 1 answer 0 holder 0 turns 0"),
+        ("open 255", "reply 1 answer 0 holder 0 sheet 0 turns 0"),
         (
             "address 2 255 -2147483648 2147483647",
             "reply 5 key 0 turns 0",
@@ -67,8 +69,8 @@ fn numbers_at_the_end_of_their_types_are_numbers() {
             "reply 0 key 1073987584 turns 134217727",
         ),
         (
-            "insall 255 255 255 -2147483648 2147483647 -2147483648 2147483647",
-            "reply 1 holder 0 turns 0 0",
+            "insall 255 65535 255 255 -2147483648 2147483647 -2147483648 2147483647",
+            "reply 1 holder 0 sheet 0 turns 0 0",
         ),
         ("read 4294967295", "end"),
         ("tiles 4294967295", "ok"),
@@ -131,19 +133,19 @@ fn show_shows_the_tables_and_changes_nothing() {
         "lend 3 3 60",
         "start 0 2",
         "open 1",
-        "ins 1 2 4 -1 5",
+        "ins 1 7 2 4 -1 5",
         "open 2",
         "tile 1 7",
         "tiles 2",
-        "journal 21",
+        "journal 23",
     ] {
         console.answer(line.as_bytes());
     }
     let before = console.clone();
     let due = "rule 2, open jobs: 1 2\ntiles: 2 of 3\n  4/15/5\n  7, which is no key\n\
-               operations: 1 of 3\n  kind 1 job 1 key 1073987589\njournal: 21 of 60\n\
-               \x20 at 0: rule 2\n  at 4: open 1\n  at 8: operation 1 1 1 1073987589\n\
-               \x20 at 18: cut";
+               operations: 1 of 3\n  sheet 7 kind 1 job 1 key 1073987589\njournal: 23 of 60\n\
+               \x20 at 0: rule 2\n  at 4: open 1\n  at 8: sheeted 1 1 1 1073987589 7\n\
+               \x20 at 20: cut";
     assert_eq!(console.answer(b"show"), due);
     console.answer(b"help");
     assert_eq!(console.session, before.session);

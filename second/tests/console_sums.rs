@@ -14,12 +14,11 @@ fn sum_of(numbers: &[u128]) -> u128 {
 
 /// The answer to a mend that left two bytes out, with the sum of an output of so many bytes.
 fn mended_line(room: usize) -> String {
-    let mut output = vec![
-        1u128, 0, 1, 1, 2, 0, 7, 1, 1, 1, 0x40, 3, 0xC0, 5, 4, 0, 1, 1,
-    ];
+    let mut output = vec![1u128, 0, 1, 1];
+    output.extend([6, 0, 9, 1, 1, 1, 0x40, 3, 0xC0, 5, 0, 7, 4, 0, 1, 1]);
     output.resize(room, 255);
     let sum = sum_of(&output);
-    format!("reply 0 length 18 left 2 aborted 1 count 0 sum {}", sum)
+    format!("reply 0 length 20 left 2 aborted 1 count 0 sum {}", sum)
 }
 
 /// The answer to a mend that was refused.
@@ -34,14 +33,15 @@ fn refused_line(number: u8, count: u32, room: usize) -> String {
 #[test]
 fn mends_by_hand() {
     // The journal has an open, an insert and half of a commit.
-    let input = "lend 2 3 60\nstart 0 1\nopen 1\nins 1 2 4 -1 5\nbyte 14 3\nbyte 15 0\ntile 0 0\n\
-                 mend 0 16 20\nmend 0 16 18\nmend 0 16 17\nmend 1 16 20\nmend 0 61 20\n\
-                 mend 0 16 66001\nmend 0 0 0\nmend 0 16 66000\n";
+    let input =
+        "lend 2 3 60\nstart 0 1\nopen 1\nins 1 7 2 4 -1 5\nbyte 16 3\nbyte 17 0\ntile 0 0\n\
+                 mend 0 18 22\nmend 0 18 20\nmend 0 18 19\nmend 1 18 22\nmend 0 61 22\n\
+                 mend 0 18 66001\nmend 0 0 0\nmend 0 18 66000\n";
     let due = [
+        mended_line(22),
         mended_line(20),
-        mended_line(18),
-        refused_line(18, 0, 17),
-        refused_line(1, 1, 20),
+        refused_line(18, 0, 19),
+        refused_line(1, 1, 22),
         "?".to_string(),
         "?".to_string(),
         "reply 0 length 0 left 0 aborted 0 count 0 sum 0".to_string(),
@@ -55,20 +55,20 @@ fn mends_by_hand() {
 #[test]
 fn a_mend_leaves_the_session_alone() {
     let mut output = vec![5u128, 0, 1, 2, 1, 0, 1, 1];
-    output.extend([2, 0, 7, 1, 1, 1, 0x40, 3, 0xC0, 5, 4, 0, 1, 1]);
+    output.extend([6, 0, 9, 1, 1, 1, 0x40, 3, 0xC0, 5, 0, 7, 4, 0, 1, 1]);
     output.resize(60, 255);
     holds(&format!(
         "lend 2 3 60 => lent 2 3 60
-        start 0 2 => reply 0 answer 0 holder 0 turns 0
-        open 1 => reply 0 answer 0 holder 0 turns 0
-        ins 1 2 4 -1 5 => reply 0 answer 1 holder 0 turns -1
+        start 0 2 => reply 0 answer 0 holder 0 sheet 0 turns 0
+        open 1 => reply 0 answer 0 holder 0 sheet 0 turns 0
+        ins 1 7 2 4 -1 5 => reply 0 answer 1 holder 0 sheet 0 turns -1
         tile 0 0 => ok
-        mend 0 18 60 => reply 0 length 22 left 0 aborted 1 count 0 sum {}
-        commit 1 => reply 1 answer 0 holder 0 turns 0
+        mend 0 20 60 => reply 0 length 24 left 0 aborted 1 count 0 sum {}
+        commit 1 => reply 1 answer 0 holder 0 sheet 0 turns 0
         tiles 0 => ok
         operations 0 => ok
-        commit 1 => reply 0 answer 0 holder 0 turns 0
-        read 18 => commit 1 next 22",
+        commit 1 => reply 0 answer 0 holder 0 sheet 0 turns 0
+        read 20 => commit 1 next 24",
         sum_of(&output)
     ));
 }

@@ -19,7 +19,7 @@ fn check_journal(before: &Bench, after: &Bench) {
     let old = before.session.journal as usize;
     let new = after.session.journal as usize;
     let (was, is) = (&before.tables.journal, &after.tables.journal);
-    assert!(new - old == 4 || new - old == 10);
+    assert!(new - old == 4 || new - old == 12);
     assert_eq!(was[..old], is[..old]);
     assert_eq!(was[new..], is[new..]);
 }

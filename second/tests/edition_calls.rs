@@ -169,7 +169,7 @@ fn the_least_row_is_refused_by_five() {
         assert_eq!(bench.ins(1, place), refused(5));
         for rows in [(i32::MIN, 0), (0, i32::MIN), (i32::MIN, i32::MIN)] {
             let place = rectangle(1, zoom, (0, 0), rows);
-            assert_eq!(bench.sweep(1, Sweep::Insert, place), (5, 0));
+            assert_eq!(bench.sweep(1, Sweep::Insert, place), refused(5));
         }
     }
 }

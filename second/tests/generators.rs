@@ -51,7 +51,7 @@ const REPLIES: [(&str, &[u8]); 20] = [
     ("printed 2", &[0, 10, 11, 12]),
 ];
 
-const OTHER_ANSWERS: [(&str, &str); 13] = [
+const OTHER_ANSWERS: [(&str, &str); 14] = [
     ("any line", "?"),
     ("lend", "?"),
     ("replay 1", "?"),
@@ -59,6 +59,7 @@ const OTHER_ANSWERS: [(&str, &str); 13] = [
     ("change", "?"),
     ("read", "open"),
     ("read", "operation"),
+    ("read", "sheeted"),
     ("read", "commit"),
     ("read", "abort"),
     ("read", "rule"),

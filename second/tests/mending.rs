@@ -58,7 +58,7 @@ fn open_jobs(journal: &[u8]) -> Vec<u8> {
         match record {
             Record::Open(job) => open[usize::from(job)] = true,
             Record::Commit(job) | Record::Abort(job) => open[usize::from(job)] = false,
-            Record::Operation { .. } | Record::JobAsOne => {}
+            Record::Operation(_) | Record::JobAsOne => {}
         }
     }
     (0..64).filter(|job| open[usize::from(*job)]).collect()
@@ -204,12 +204,12 @@ fn a_mend_starts_on_the_tiles_it_is_given() {
     bench.del(1, A);
     bench.ins(2, B);
     bench.commit(1);
-    let mut tables = lent(2, 2, 36);
+    let mut tables = lent(2, 2, 40);
     tables.tiles[0] = tile(A).key();
-    assert_eq!(tables.mend(bench.journal(), 1), mended(0, 36, 0, 1, 0));
-    assert_eq!(tables.output[..32], *bench.journal());
-    assert_eq!(tables.output[32..], [4, 0, 1, 2]);
-    let mut short = lent(2, 2, 35);
+    assert_eq!(tables.mend(bench.journal(), 1), mended(0, 40, 0, 1, 0));
+    assert_eq!(tables.output[..36], *bench.journal());
+    assert_eq!(tables.output[36..], [4, 0, 1, 2]);
+    let mut short = lent(2, 2, 39);
     short.tiles[0] = tile(A).key();
     assert_eq!(short.mend(bench.journal(), 1), mended(18, 0, 0, 0, 1));
     assert_eq!(short.tiles, [tile(A).key(), 0]);

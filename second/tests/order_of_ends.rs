@@ -23,7 +23,7 @@ enum End {
 }
 
 impl End {
-    fn call(self, bench: &mut Bench) -> (u8, u8, u8) {
+    fn call(self, bench: &mut Bench) -> Told {
         match self {
             End::Commit(job) => bench.commit(job),
             End::Abort(job) => bench.abort(job),

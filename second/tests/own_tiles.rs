@@ -6,6 +6,7 @@ use common::*;
 use second::address::Address;
 use second::operation::Procedure;
 use second::rule::Rule;
+use second::soundness::kind_of;
 use second::strictness::{most_tiles, run, step_on, strict, Step, Tiles};
 
 fn with_places(places: usize, present: &[Address]) -> Bench {
@@ -35,7 +36,11 @@ fn a_job_may_look_at_its_own_insert() {
     assert_eq!(bench.del(1, A), OK);
     assert_eq!(bench.mem(1, A), FAIL);
     assert_eq!(bench.del(1, A), OK);
-    let kinds: Vec<u64> = bench.entries().iter().map(|entry| entry >> 40).collect();
+    let kinds: Vec<u64> = bench
+        .entries()
+        .iter()
+        .map(|entry| kind_of(*entry))
+        .collect();
     assert_eq!(kinds, [1, 5, 2, 3, 6, 4]);
 }
 

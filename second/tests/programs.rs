@@ -131,12 +131,15 @@ fn lines_are_answered_as_one_types() {
     let mut console = Typed::start();
     for (line, due) in [
         ("lend 2 3 60", "lent 2 3 60"),
-        ("start 0 1", "reply 0 answer 0 holder 0 turns 0"),
-        ("open 1", "reply 0 answer 0 holder 0 turns 0"),
+        ("start 0 1", "reply 0 answer 0 holder 0 sheet 0 turns 0"),
+        ("open 1", "reply 0 answer 0 holder 0 sheet 0 turns 0"),
         ("", "?"),
-        ("ins 1 2 4 -1 5", "reply 0 answer 1 holder 0 turns -1"),
-        ("read 4", "operation 1 1 1 1073987589 next 14"),
-        ("abort 1", "reply 0 answer 0 holder 0 turns 0"),
+        (
+            "ins 1 7 2 4 -1 5",
+            "reply 0 answer 1 holder 0 sheet 0 turns -1",
+        ),
+        ("read 4", "sheeted 1 1 1 1073987589 7 next 16"),
+        ("abort 1", "reply 0 answer 0 holder 0 sheet 0 turns 0"),
     ] {
         console.write(line.as_bytes());
         console.write(b"\n");
@@ -144,9 +147,9 @@ fn lines_are_answered_as_one_types() {
     }
     console.write(b"read ");
     assert!(console.says_nothing());
-    console.write(b"0\nread 14\nread 18");
+    console.write(b"0\nread 16\nread 20");
     assert_eq!(console.read(), "open 1 next 4");
-    assert_eq!(console.read(), "abort 1 next 18");
+    assert_eq!(console.read(), "abort 1 next 20");
     assert!(console.says_nothing());
     let Typed {
         mut child,

@@ -3,8 +3,8 @@
 mod common;
 
 use common::{tile, A};
-use second::journal::{Reader, Reading, Record};
-use second::operation::PROCEDURES;
+use second::journal::{Reader, Reading, Record, Recorded};
+use second::operation::{Procedure, PROCEDURES};
 use second::random::Random;
 
 fn read(journal: &[u8]) -> Reading {
@@ -26,12 +26,17 @@ fn all_records() -> Vec<Record> {
     let mut records = vec![Record::JobAsOne];
     for job in [0, 3, 63] {
         records.extend([Record::Open(job), Record::Commit(job), Record::Abort(job)]);
-        records.extend(PROCEDURES.iter().map(|procedure| Record::Operation {
-            job,
-            procedure: *procedure,
-            ok: true,
-            tile: tile(A),
-        }));
+        for sheet in [None, Some(0), Some(1), Some(256), Some(65_535)] {
+            records.extend(PROCEDURES.map(|procedure| {
+                Record::Operation(Recorded {
+                    job,
+                    procedure,
+                    ok: true,
+                    tile: tile(A),
+                    sheet,
+                })
+            }));
+        }
     }
     records
 }
@@ -43,6 +48,32 @@ fn records_are_read_as_they_were_written() {
     }
     assert_eq!(Record::Open(3).bytes(), [1, 0, 1, 3]);
     assert_eq!(Record::JobAsOne.bytes(), [5, 0, 1, 2]);
+}
+
+#[test]
+fn a_sheet_stands_behind_the_key_high_byte_first() {
+    let inserted = |sheet| {
+        Record::Operation(Recorded {
+            job: 3,
+            procedure: Procedure::Insert,
+            ok: true,
+            tile: tile(A),
+            sheet,
+        })
+    };
+    let old = [2, 0, 7, 3, 1, 1, 0x40, 0x03, 0xC0, 0x05];
+    let sheeted = [6, 0, 9, 3, 1, 1, 0x40, 0x03, 0xC0, 0x05, 0x01, 0x02];
+    assert_eq!(inserted(None).bytes(), old);
+    assert_eq!(inserted(Some(0x0102)).bytes(), sheeted);
+    assert_eq!(read(&old), Reading::Whole(inserted(None)));
+    for high in 0..=255 {
+        for low in 0..=255 {
+            let mut bytes = sheeted;
+            bytes[10..].copy_from_slice(&[high, low]);
+            let sheet = 256 * u16::from(high) + u16::from(low);
+            assert_eq!(read(&bytes), Reading::Whole(inserted(Some(sheet))));
+        }
+    }
 }
 
 #[test]
@@ -58,24 +89,29 @@ fn every_prefix_is_cut() {
 
 #[test]
 fn the_field_of_a_cut_record_is_not_looked_at() {
-    assert_eq!(read(&[2, 0, 7, 255, 255, 255, 255, 255, 255]), Reading::Cut);
-    assert_eq!(
-        read(&[2, 0, 7, 255, 255, 255, 255, 255, 255, 255]),
-        Reading::Malformed
-    );
+    for (head, length) in [([2, 0, 7], 7), ([6, 0, 9], 9)] {
+        let whole = [&head[..], &vec![255; length]].concat();
+        assert_eq!(read(&whole[..whole.len() - 1]), Reading::Cut);
+        assert_eq!(read(&whole), Reading::Malformed);
+    }
 }
 
 #[test]
 fn the_length_bytes_that_are_there_must_be_right() {
-    for tag in [1, 2, 3, 4, 5] {
+    for (tag, length) in [(1, 1), (2, 7), (3, 1), (4, 1), (5, 1), (6, 9)] {
         assert_eq!(read(&[tag]), Reading::Cut);
         assert_eq!(read(&[tag, 0]), Reading::Cut);
         assert_eq!(read(&[tag, 1]), Reading::Malformed);
-        let length = if tag == 2 { 7 } else { 1 };
-        assert_eq!(read(&[tag, 0, length]), Reading::Cut);
-        assert_eq!(read(&[tag, 0, 8 - length]), Reading::Malformed);
+        for other in 0..=255 {
+            let due = if other == length {
+                Reading::Cut
+            } else {
+                Reading::Malformed
+            };
+            assert_eq!(read(&[tag, 0, other]), due);
+        }
     }
-    for tag in [0, 6, 255] {
+    for tag in (7..=255).chain(Some(0)) {
         assert_eq!(read(&[tag]), Reading::Malformed);
     }
 }
@@ -86,8 +122,8 @@ fn wrong_fields_are_malformed() {
         assert_eq!(read(&[tag, 0, 1, 64]), Reading::Malformed);
         assert_eq!(read(&[tag, 0, 1, 255]), Reading::Malformed);
     }
-    let good = [2, 0, 7, 63, 3, 0, 0x40, 0x03, 0xC0, 0x05];
-    assert!(matches!(read(&good), Reading::Whole(_)));
+    let old: &[u8] = &[2, 0, 7, 63, 3, 0, 0x40, 0x03, 0xC0, 0x05];
+    let sheeted: &[u8] = &[6, 0, 9, 63, 3, 0, 0x40, 0x03, 0xC0, 0x05, 1, 2];
     let wrong = [
         (3, 64),
         (4, 0),
@@ -100,16 +136,14 @@ fn wrong_fields_are_malformed() {
         (8, 0xC1),
         (9, 0x10),
     ];
-    for (place, byte) in wrong {
-        let mut bytes = good;
-        bytes[place] = byte;
-        assert_eq!(
-            read(&bytes),
-            Reading::Malformed,
-            "place {} byte {}",
-            place,
-            byte
-        );
+    for good in [old, sheeted] {
+        assert!(matches!(read(good), Reading::Whole(_)));
+        for (place, byte) in wrong {
+            let mut bytes = good.to_vec();
+            bytes[place] = byte;
+            let reading = read(&bytes);
+            assert_eq!(reading, Reading::Malformed, "{} {}", place, byte);
+        }
     }
 }
 
@@ -157,14 +191,21 @@ fn places_behind_the_last_byte_are_the_end() {
 #[test]
 fn whole_records_of_noise_are_written_back_the_same() {
     let mut random = Random::seeded(5);
+    let mut whole = [0; 7];
     for _ in 0..20_000 {
-        let mut bytes: Vec<u8> = (0..10).map(|_| random.byte() % 6).collect();
+        let mut bytes: Vec<u8> = (0..12).map(|_| random.byte() % 7).collect();
         bytes[1] = 0;
-        bytes[2] = if bytes[0] == 2 { 7 } else { 1 };
+        bytes[2] = match bytes[0] {
+            2 => 7,
+            6 => 9,
+            _ => 1,
+        };
         bytes[6] = random.pick(&[0x40, 0x41, 0xE0]);
         if let Reading::Whole(record) = read(&bytes) {
             let written = record.bytes();
             assert_eq!(written, bytes[..written.len()]);
+            whole[usize::from(bytes[0])] += 1;
         }
     }
+    assert!(whole[1..].iter().all(|times| *times > 50), "{:?}", whole);
 }

@@ -4,7 +4,7 @@ mod common;
 
 use common::*;
 use second::address::Address;
-use second::journal::{Reader, Reading, Record};
+use second::journal::{Reader, Reading, Record, Recorded};
 use second::random::Random;
 use second::rectangle::{Rectangle, Sweep, SWEEPS};
 use second::reply::Refusal;
@@ -165,14 +165,17 @@ fn one_record_a_tile_in_the_order_of_the_list() {
         for sweep in SWEEPS {
             let mut bench = Bench::with_places_by(rule, 100, &[A]);
             let place = rectangle(4, (14, 17), (4, 6));
-            assert_eq!(bench.sweep(2, sweep, place), (0, 0));
+            assert_eq!(bench.sweep(2, sweep, place), DONE);
             let list = place.tiles().expect("a rectangle that is taken");
             let written = records(bench.journal());
-            let due = list.iter().map(|tile| Record::Operation {
-                job: 2,
-                procedure: sweep.procedure(),
-                ok: true,
-                tile: *tile,
+            let due = list.iter().map(|tile| {
+                Record::Operation(Recorded {
+                    job: 2,
+                    procedure: sweep.procedure(),
+                    ok: true,
+                    tile: *tile,
+                    sheet: Some(usual(2).sheet),
+                })
             });
             assert!(due.eq(written[2..].iter().copied()));
             let due_tiles = match sweep {
@@ -194,18 +197,18 @@ fn the_refusals_in_their_order() {
     for rule in RULES {
         let mut bench = Bench::started_by(rule, (1, 1, 12), &[A]);
         bench.tables.tiles[0] += 16;
-        assert_eq!(bench.sweep(64, Sweep::Insert, unknown), (1, 0));
+        assert_eq!(bench.sweep(64, Sweep::Insert, unknown), refused(1));
         bench.tables.tiles[0] -= 16;
-        assert_eq!(bench.sweep(64, Sweep::Insert, unknown), (2, 0));
-        assert_eq!(bench.sweep(63, Sweep::Insert, unknown), (3, 0));
+        assert_eq!(bench.sweep(64, Sweep::Insert, unknown), refused(2));
+        assert_eq!(bench.sweep(63, Sweep::Insert, unknown), refused(3));
         assert_eq!(bench.open(63), DONE);
-        assert_eq!(bench.sweep(63, Sweep::Insert, unknown), (14, 0));
-        assert_eq!(bench.sweep(63, Sweep::Insert, none), (5, 0));
-        assert_eq!(bench.sweep(63, Sweep::Insert, empty), (13, 0));
-        assert_eq!(bench.sweep(63, Sweep::Insert, good), (7, 0));
-        assert_eq!(bench.sweep(63, Sweep::Delete, good), (8, 0));
+        assert_eq!(bench.sweep(63, Sweep::Insert, unknown), refused(14));
+        assert_eq!(bench.sweep(63, Sweep::Insert, none), refused(5));
+        assert_eq!(bench.sweep(63, Sweep::Insert, empty), refused(13));
+        assert_eq!(bench.sweep(63, Sweep::Insert, good), refused(7));
+        assert_eq!(bench.sweep(63, Sweep::Delete, good), refused(8));
         bench.tables.operations.push(0);
-        assert_eq!(bench.sweep(63, Sweep::Delete, good), (9, 0));
+        assert_eq!(bench.sweep(63, Sweep::Delete, good), refused(9));
     }
 }
 
@@ -218,12 +221,12 @@ fn the_first_held_tile_of_the_list_names_the_holder() {
         assert_eq!(bench.del(2, A), OK);
         let both = rectangle(4, (13, 15), (5, 5));
         // The second tile has no place, but the third is held.
-        assert_eq!(bench.sweep(3, Sweep::Insert, both), (6, 2));
+        assert_eq!(bench.sweep(3, Sweep::Insert, both), held(2));
         bench.tables.tiles.push(0);
         assert_eq!(bench.ins(1, other), OK);
         // Job 1 came later, but its tile stands before the other in the list.
         let before = bench.clone();
-        assert_eq!(bench.sweep(3, Sweep::Delete, both), (6, 1));
+        assert_eq!(bench.sweep(3, Sweep::Delete, both), held(1));
         assert_eq!(bench, before);
     }
 }
@@ -233,12 +236,12 @@ fn a_job_sweeps_over_its_own_tiles_by_rule_2() {
     let place = rectangle(4, (14, 17), (4, 6));
     let mut bench = Bench::with_places_by(Rule::JobAsOne, 12, &[]);
     for sweep in [Sweep::Insert, Sweep::Delete, Sweep::Insert] {
-        assert_eq!(bench.sweep(1, sweep, place), (0, 0));
+        assert_eq!(bench.sweep(1, sweep, place), DONE);
     }
     assert_eq!(bench.keys().len(), 12);
     assert_eq!(bench.abort(1), DONE);
     assert_eq!(bench.keys().len(), 0);
     let mut bench = Bench::with_places_by(Rule::EachAlone, 12, &[]);
-    assert_eq!(bench.sweep(1, Sweep::Insert, place), (0, 0));
-    assert_eq!(bench.sweep(1, Sweep::Delete, place), (6, 1));
+    assert_eq!(bench.sweep(1, Sweep::Insert, place), DONE);
+    assert_eq!(bench.sweep(1, Sweep::Delete, place), held(1));
 }

@@ -143,6 +143,6 @@ fn a_replay_starts_on_the_tiles_it_is_given() {
     let mut entries = vec![u64::MAX; 2];
     let outcome = replay(bench.journal(), &mut tiles, 1, &mut entries);
     // Job 2 is open at the end and is undone.
-    assert_eq!(outcome, replayed(0, 32, 1, 0));
+    assert_eq!(outcome, replayed(0, 36, 1, 0));
     assert_eq!((tiles, entries), (vec![0, 0], vec![0, 0]));
 }

@@ -4,6 +4,8 @@ mod common;
 
 use common::*;
 use second::address::Address;
+use second::rectangle::{Rectangle, Sweep};
+use second::rule::{Rule, RULES};
 
 const NO_EDITION: Address = Address {
     edition: 3,
@@ -36,7 +38,7 @@ fn the_first_number_that_applies_is_given() {
 
 #[test]
 fn room_is_refused_in_the_order_of_the_tables() {
-    let mut bench = Bench::started((1, 1, 22), &[A]);
+    let mut bench = Bench::started((1, 1, 24), &[A]);
     assert_eq!(bench.open(0), DONE);
     assert_eq!(bench.del(0, A), OK);
     // Held, no tile room, no operations place and no journal room at once.
@@ -59,14 +61,57 @@ fn journal_room_of_an_open() {
     }
 }
 
+/// A session with so many jobs open and so many bytes free.
+fn with_free_bytes(rule: Rule, open_jobs: u8, free: usize) -> Bench {
+    let mut bench = Bench::started_by(rule, (20, 20, 2000), &[]);
+    for job in 0..open_jobs {
+        assert_eq!(bench.open(job), DONE);
+    }
+    let used = bench.journal().len();
+    bench.tables.journal.truncate(used + free);
+    bench
+}
+
 #[test]
 fn journal_room_of_an_operation() {
-    for free in 12..30 {
-        let mut bench = Bench::started((1, 2, free), &[]);
-        assert_eq!(bench.open(0), DONE);
-        let due = if free - 4 < 14 { refused(9) } else { FAIL };
-        assert_eq!(bench.mem(0, A), due);
-        assert_eq!(bench.commit(0), DONE);
+    for rule in RULES {
+        for open_jobs in [1, 2, 3, 63, 64] {
+            let endings = 4 * usize::from(open_jobs);
+            for spare in 0..25 {
+                let mut bench = with_free_bytes(rule, open_jobs, endings + spare);
+                let due = if spare < 12 { refused(9) } else { FAIL };
+                assert_eq!(bench.mem(0, A), due);
+                let next = if spare < 24 { refused(9) } else { FAIL };
+                assert_eq!(bench.mem(0, A), next);
+                for job in 0..open_jobs {
+                    assert_eq!(bench.commit(job), DONE);
+                }
+            }
+        }
+    }
+}
+
+#[test]
+fn journal_room_of_a_rectangle() {
+    for rule in RULES {
+        for open_jobs in [1, 2, 64] {
+            let endings = 4 * usize::from(open_jobs);
+            for width in 1..=16 {
+                let place = Rectangle {
+                    edition: 2,
+                    zoom: 4,
+                    west: -1,
+                    east: width - 2,
+                    top: 5,
+                    bottom: 5,
+                };
+                let needed = 12 * width as usize + endings;
+                for (free, due) in [(needed - 1, refused(9)), (needed, DONE)] {
+                    let mut bench = with_free_bytes(rule, open_jobs, free);
+                    assert_eq!(bench.sweep(0, Sweep::Insert, place), due);
+                }
+            }
+        }
     }
 }
 
@@ -104,8 +149,8 @@ fn gaps_close_and_the_order_stays() {
     bench.ins(1, column(3));
     bench.ins(2, column(4));
     assert_eq!(bench.abort(1), DONE);
-    let entry = |kind: u64, column| (kind << 40) + (2 << 32) + u64::from(tile(B).key()) + column;
-    let due = [entry(1, 2 * 16_384), entry(1, 4 * 16_384), 0];
+    let inserted = (40_002 << 48) + (1 << 40) + (2 << 32) + u64::from(tile(B).key());
+    let due = [inserted + 2 * 16_384, inserted + 4 * 16_384, 0];
     assert_eq!(bench.tables.operations[..3], due);
     assert_eq!(bench.session.operations, 2);
     assert_eq!(bench.session.tiles, 2);

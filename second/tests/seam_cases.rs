@@ -124,7 +124,7 @@ fn shortcut_a_record_whose_last_byte_is_missing() {
     let mut bench = Bench::ample(&[]);
     bench.ins(1, A);
     let journal = bench.journal();
-    for (place, size) in [(0, 4), (4, 4), (8, 10)] {
+    for (place, size) in [(0, 4), (4, 4), (8, 12)] {
         let mut reader = Reader::at(&journal[..place + size - 1], place);
         assert_eq!(reader.read(), Reading::Cut);
         assert_eq!(reader.place(), place);

@@ -6,10 +6,11 @@ mod common;
 use common::tables::{damage, some_address, some_bench};
 use common::*;
 use second::address::Address;
-use second::operation::{Procedure, PROCEDURES};
+use second::journals::some_sheet;
+use second::operation::{Origin, Procedure, PROCEDURES};
 use second::random::Random;
 use second::rule::Rule;
-use second::soundness::{is_change, job_of, key_of, kind_of};
+use second::soundness::{is_change, job_of, key_of, kind_of, sheet_of};
 use std::collections::{BTreeMap, BTreeSet};
 
 const ROUNDS: usize = 40_000;
@@ -91,24 +92,26 @@ fn key_at(address: Address) -> Result<u32, u8> {
 }
 
 /// The entry that an operation would be; none where it is refused by 2, 3, 14 or 5.
-fn new_entry(bench: &Bench, job: u8, procedure: Procedure, address: Address) -> Result<u64, u8> {
+fn new_entry(bench: &Bench, origin: Origin, word: Procedure, place: Address) -> Result<u64, u8> {
+    let Origin { job, sheet } = origin;
     if job > 63 {
         return Err(2);
     }
     if !bench.session.open[usize::from(job)] {
         return Err(3);
     }
-    let key = key_at(address)?;
-    let kind = kind_on(procedure, bench.keys().contains(&key));
-    Ok((kind << 40) + (u64::from(job) << 32) + u64::from(key))
+    let key = key_at(place)?;
+    let kind = kind_on(word, bench.keys().contains(&key));
+    let origin = (u64::from(sheet) << 48) + (u64::from(job) << 32);
+    Ok(origin + (kind << 40) + u64::from(key))
 }
 
 /// The reply to an operation that would be this entry.
-fn due_reply(bench: &Bench, new: u64) -> (u8, u8, u8) {
+fn due_reply(bench: &Bench, new: u64) -> Told {
     let rule = bench.session.rule;
     let mut entries = bench.entries().iter();
     if let Some(holder) = entries.find(|entry| holds(rule, **entry, new)) {
-        return held(job_of(*holder) as u8);
+        return (6, 0, job_of(*holder) as u8, sheet_of(*holder));
     }
     let open = bench.session.open.iter().filter(|mark| **mark).count();
     let free = bench.tables.journal.len() - bench.session.journal as usize;
@@ -116,10 +119,10 @@ fn due_reply(bench: &Bench, new: u64) -> (u8, u8, u8) {
         refused(7)
     } else if bench.entries().len() == bench.tables.operations.len() {
         refused(8)
-    } else if free < 10 + 4 * open {
+    } else if free < 12 + 4 * open {
         refused(9)
     } else {
-        (0, u8::from(kind_of(new) != 6), 0)
+        (0, u8::from(kind_of(new) != 6), 0, 0)
     }
 }
 
@@ -133,8 +136,9 @@ fn check_effects(before: &Bench, after: &Bench, new: u64, procedure: Procedure, 
     }
     assert!(after.keys().iter().eq(&tiles));
     assert_eq!(after.entries(), [before.entries(), &[new]].concat());
-    let mut record = vec![2, 0, 7, job_of(new) as u8, procedure.number(), answer];
+    let mut record = vec![6, 0, 9, job_of(new) as u8, procedure.number(), answer];
     record.extend_from_slice(&key_of(new).to_be_bytes());
+    record.extend_from_slice(&sheet_of(new).to_be_bytes());
     assert_eq!(after.journal(), [before.journal(), &record].concat());
     assert_eq!(after.session.open, before.session.open);
     assert_eq!(after.session.rule, before.session.rule);
@@ -150,13 +154,17 @@ fn operations_are_answered_and_done_by_the_words_of_the_papers() {
         if !bench.is_sound() {
             continue;
         }
-        let job = random.pick(&[0, 0, 1, 2, 2, 63, 64]);
+        let origin = Origin {
+            job: random.pick(&[0, 0, 1, 2, 2, 63, 64]),
+            sheet: some_sheet(&mut random),
+        };
         let procedure = random.pick(&PROCEDURES);
         let address = some_address(&mut random);
-        let new = new_entry(&bench, job, procedure, address);
+        let new = new_entry(&bench, origin, procedure, address);
         let due = new.map_or_else(refused, |new| due_reply(&bench, new));
         let before = bench.clone();
-        assert_eq!(bench.operate(job, procedure, address), due, "{:?}", before);
+        let reply = bench.operate_for(origin, procedure, address);
+        assert_eq!(reply, due, "{:?}", before);
         match new {
             Ok(new) if due.0 == 0 => check_effects(&before, &bench, new, procedure, due.1),
             Ok(_) | Err(_) => assert_eq!(bench, before),

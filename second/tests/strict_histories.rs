@@ -1,12 +1,24 @@
 //! Random small histories by both rules against the report's definition, over all choices; and the
-//! journal of each history cut at every byte, replayed and mended.
+//! journal of each history, in both forms of records, cut at every byte, replayed and mended.
 
 mod common;
 
+use common::cuts::Chronicle;
 use common::history::{most_done, Tally, Trial};
+use second::random::Random;
 use second::rule::Rule;
 
 const HISTORIES: u64 = 400;
+
+/// As the session wrote it, or with all its operations in the old form, or some.
+fn in_some_form(written: Chronicle, seed: u64) -> Chronicle {
+    let mut random = Random::seeded(seed);
+    match seed % 3 {
+        0 => written,
+        1 => written.with_old_records(|| true),
+        _ => written.with_old_records(|| random.one_in(2)),
+    }
+}
 
 /// Every outcome was met often, or this would show little.
 fn many_histories(rule: Rule) -> Tally {
@@ -14,9 +26,12 @@ fn many_histories(rule: Rule) -> Tally {
     let mut most_unfinished = 0;
     for seed in 0..HISTORIES {
         let trial = Trial::run(rule, seed);
-        trial.reads_back();
-        trial.cut_everywhere();
-        trial.mend_everywhere();
+        let written = trial.chronicle();
+        written.reads_back();
+        let journal = in_some_form(written, seed);
+        journal.reads_back();
+        journal.cut_everywhere();
+        journal.mend_everywhere();
         most_unfinished = most_unfinished.max(trial.unfinished().count());
         for (reply, times) in &trial.tally.replies {
             *sum.replies.entry(*reply).or_insert(0) += times;

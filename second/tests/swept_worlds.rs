@@ -5,6 +5,8 @@ mod common;
 use common::tables::{damage, some_bench};
 use common::*;
 use second::address::Address;
+use second::journals::some_sheet;
+use second::operation::Origin;
 use second::random::Random;
 use second::rectangle::{Rectangle, Sweep, SWEEPS};
 use second::session::{MOST_JOURNAL, MOST_OPERATIONS, MOST_TILES};
@@ -50,13 +52,13 @@ fn addresses(place: Rectangle) -> Vec<Address> {
     list.collect()
 }
 
-/// The numbers and holders that the operations get, up to the first that is refused.
-fn one_by_one(bench: &mut Bench, job: u8, sweep: Sweep, place: Rectangle) -> Vec<(u8, u8)> {
+/// What the operations are told, up to the first that is refused.
+fn one_by_one(bench: &mut Bench, origin: Origin, sweep: Sweep, place: Rectangle) -> Vec<Told> {
     let mut replies = Vec::new();
     for address in addresses(place) {
-        let (number, _, holder) = bench.operate(job, sweep.procedure(), address);
-        replies.push((number, holder));
-        if number != 0 {
+        let reply = bench.operate_for(origin, sweep.procedure(), address);
+        replies.push(reply);
+        if reply.0 != 0 {
             break;
         }
     }
@@ -79,24 +81,24 @@ fn with_room_judged(bench: &Bench, number: u8) -> Bench {
 }
 
 /// The reply to a rectangle that 1, 2, 3, 14, 5 and 13 do not refuse: 6 for the first held tile on
-/// the tables as they stand; then a number exactly when the list, taken tile after tile, runs out of
-/// that room, each room judged alone.
-fn due_reply(bench: &Bench, job: u8, sweep: Sweep, place: Rectangle) -> (u8, u8) {
+/// the tables as they stand; then a number exactly when the list, taken tile after tile, runs out
+/// of that room, each room judged alone.
+fn due_reply(bench: &Bench, origin: Origin, sweep: Sweep, place: Rectangle) -> Told {
     for address in addresses(place) {
         let mut ample = with_room_judged(bench, 0);
-        let (number, _, holder) = ample.operate(job, sweep.procedure(), address);
-        if number == 6 {
-            return (6, holder);
+        let reply = ample.operate_for(origin, sweep.procedure(), address);
+        if reply.0 == 6 {
+            return reply;
         }
     }
     for number in [7, 8, 9] {
         let mut judged = with_room_judged(bench, number);
-        let replies = one_by_one(&mut judged, job, sweep, place);
-        if replies.last() == Some(&(number, 0)) {
-            return (number, 0);
+        let replies = one_by_one(&mut judged, origin, sweep, place);
+        if replies.last() == Some(&refused(number)) {
+            return refused(number);
         }
     }
-    (0, 0)
+    DONE
 }
 
 /// Whether a rectangle is refused before its tiles are looked at, and by which number.
@@ -123,20 +125,23 @@ fn a_rectangle_is_done_exactly_when_its_operations_are() {
         let place = some_rectangle(&mut random);
         let sweep = random.pick(&SWEEPS);
         let job = random.pick(&[0, 0, 1, 2, 2, 64]);
+        let sheet = some_sheet(&mut random);
+        let origin = Origin { job, sheet };
         let before = bench.clone();
-        let reply = bench.sweep(job, sweep, place);
+        let reply = bench.sweep_for(origin, sweep, place);
         *met.entry((before.session.rule.number(), reply.0))
             .or_insert(0) += 1;
         if reply.0 != 0 {
             assert_eq!(bench, before);
         }
         if let Some(number) = refused_before(&before, job, place) {
-            assert_eq!(reply, (number, 0));
+            assert_eq!(reply, refused(number));
             continue;
         }
-        assert_eq!(reply, due_reply(&before, job, sweep, place), "{:?}", before);
+        let due = due_reply(&before, origin, sweep, place);
+        assert_eq!(reply, due, "{:?}", before);
         let mut alone = before.clone();
-        let replies = one_by_one(&mut alone, job, sweep, place);
+        let replies = one_by_one(&mut alone, origin, sweep, place);
         assert_eq!(reply.0 == 0, replies.iter().all(|reply| reply.0 == 0));
         if reply.0 == 0 {
             assert_eq!(bench, alone);

@@ -25,7 +25,7 @@ fn a_line_is_answered_with_its_line_feed_and_not_before() {
     assert_eq!(all_said(&mut talk, b"1 8"), "");
     assert_eq!(all_said(&mut talk, b""), "");
     assert_eq!(all_said(&mut talk, b"\n"), "lent 1 1 8\n");
-    let done = "reply 0 answer 0 holder 0 turns 0\n";
+    let done = "reply 0 answer 0 holder 0 sheet 0 turns 0\n";
     assert_eq!(all_said(&mut talk, b"start 0 1\nop"), done);
     assert_eq!(
         all_said(&mut talk, b"en 1\n\nrea"),
@@ -103,7 +103,7 @@ fn a_line_of_any_length_is_answered_by_one_line() {
 #[test]
 fn no_command_is_longer_than_the_most_bytes() {
     let longest = [
-        "insall 255 255 255 -2147483648 -2147483648 -2147483648 -2147483648",
+        "insall 255 65535 255 255 -2147483648 -2147483648 -2147483648 -2147483648",
         "entry 4294967295 18446744073709551615",
         "operations 4294967295",
     ];

@@ -7,22 +7,20 @@ use common::*;
 use second::address::Address;
 use second::operation::{Procedure, PROCEDURES};
 use second::rectangle::{Rectangle, Sweep, SWEEPS};
-use second::reply::{numbers, sweep_numbers, Span};
+use second::reply::Span;
 use second::rule::{Rule, RULES};
 use second::service;
 
-/// Number, answer, holder and turns.
-fn operated(bench: &mut Bench, job: u8, word: Procedure, place: Address) -> (u8, u8, u8, i32) {
+fn operated(bench: &mut Bench, job: u8, word: Procedure, place: Address) -> (Told, i32) {
     let (session, tables) = (&mut bench.session, &mut bench.tables);
-    numbers(service::operate(session, tables, job, word, place))
+    told(service::operate(session, tables, usual(job), word, place))
 }
 
-/// Number, holder and turns.
-fn swept(bench: &mut Bench, job: u8, sweep: Sweep, place: Rectangle) -> (u8, u8, i32, i32) {
+fn swept(bench: &mut Bench, job: u8, sweep: Sweep, place: Rectangle) -> (Told, i32, i32) {
     let (session, tables) = (&mut bench.session, &mut bench.tables);
-    let reply = service::sweep(session, tables, job, sweep, place);
-    let (number, holder, Span { first, last }) = sweep_numbers(reply);
-    (number, holder, first, last)
+    let reply = service::sweep(session, tables, usual(job), sweep, place);
+    let (told, Span { first, last }) = told_of_sweep(reply);
+    (told, first, last)
 }
 
 /// One row of so many columns.
@@ -62,10 +60,10 @@ fn operations_of_every_kind_tell_their_turns() {
         for present in [&[][..], &[address]] {
             for procedure in PROCEDURES {
                 let mut bench = Bench::with_places(2, present);
-                let (number, answer, holder, turns) = operated(&mut bench, 1, procedure, address);
-                assert_eq!((number, holder, turns), (0, 0, due), "{:?}", address);
                 let fails = procedure == Procedure::Member && present.is_empty();
-                assert_eq!(answer, u8::from(!fails));
+                let reply = operated(&mut bench, 1, procedure, address);
+                let due = (if fails { FAIL } else { OK }, due);
+                assert_eq!(reply, due, "{:?}", address);
             }
         }
     }
@@ -80,11 +78,11 @@ fn rectangles_tell_the_turns_of_west_and_of_east() {
         for west in columns_near_edges(zoom) {
             let taken = widths.iter().filter(|width| **width <= 256);
             for place in taken.filter_map(|width| row_from(zoom, west, *width)) {
-                let mut bench = Bench::started((1, 256, 2600), &[]);
+                let mut bench = Bench::started((1, 256, 3100), &[]);
                 assert_eq!(bench.open(1), DONE);
                 let Span { first, last } = span_of(place);
                 let reply = swept(&mut bench, 1, Sweep::Delete, place);
-                assert_eq!(reply, (0, 0, first, last), "{:?}", place);
+                assert_eq!(reply, (DONE, first, last), "{:?}", place);
                 on_one += usize::from(first == last);
                 on_two += usize::from(first + 1 == last);
             }
@@ -112,7 +110,7 @@ fn as_wide_as_the_level_is_one_turn_or_two() {
                 let mut bench = Bench::with_places_by(rule, 16, &[]);
                 let place = row_from(4, west, 16).expect("a rectangle of 32 bits");
                 let reply = swept(&mut bench, 1, sweep, place);
-                assert_eq!(reply, (0, 0, first, last));
+                assert_eq!(reply, (DONE, first, last));
             }
         }
     }
@@ -124,10 +122,10 @@ fn refused_operations_tell_no_turns() {
     let no_edition = Address { edition: 3, ..a };
     let no_row = Address { row: 16, ..a };
     let no_zoom = Address { zoom: 15, ..a };
-    let refusal = |number| (number, 0, 0, 0);
+    let refusal = |number| (refused(number), 0);
     let insert = Procedure::Insert;
     for rule in RULES {
-        let mut bench = Bench::started_by(rule, (1, 1, 26), &[A]);
+        let mut bench = Bench::started_by(rule, (1, 1, 28), &[A]);
         bench.tables.tiles[0] += 16;
         assert_eq!(operated(&mut bench, 1, insert, a), refusal(1));
         bench.tables.tiles[0] -= 16;
@@ -139,11 +137,10 @@ fn refused_operations_tell_no_turns() {
         assert_eq!(operated(&mut bench, 1, insert, no_zoom), refusal(5));
         assert_eq!(operated(&mut bench, 1, insert, b), refusal(7));
         let reply = operated(&mut bench, 1, Procedure::Delete, a);
-        assert_eq!(reply, (0, 1, 0, 3999));
+        assert_eq!(reply, (OK, 3999));
         bench.session.open[2] = true;
-        bench.tables.journal.push(0);
         let reply = operated(&mut bench, 2, insert, a);
-        assert_eq!(reply, (6, 0, 1, 0));
+        assert_eq!(reply, (held(1), 0));
         assert_eq!(operated(&mut bench, 1, Procedure::Member, b), refusal(8));
         bench.tables.operations.push(0);
         assert_eq!(operated(&mut bench, 1, Procedure::Member, b), refusal(9));
@@ -161,7 +158,7 @@ fn refused_rectangles_tell_no_turns() {
         bottom: rows.1,
     };
     let good = across(4, (5, 5));
-    let refusal = |number| (number, 0, 0, 0);
+    let refusal = |number| (refused(number), 0, 0);
     let insert = Sweep::Insert;
     for rule in RULES {
         let mut bench = Bench::started_by(rule, (1, 1, 40), &[A]);
@@ -182,7 +179,7 @@ fn refused_rectangles_tell_no_turns() {
         assert_eq!(swept(&mut bench, 1, insert, empty), refusal(13));
         assert_eq!(swept(&mut bench, 1, insert, good), refusal(7));
         assert_eq!(bench.del(2, A), OK);
-        assert_eq!(swept(&mut bench, 1, insert, good), (6, 2, 0, 0));
+        assert_eq!(swept(&mut bench, 1, insert, good), (held(2), 0, 0));
         assert_eq!(bench.abort(2), DONE);
         assert_eq!(swept(&mut bench, 1, Sweep::Delete, good), refusal(8));
         bench.tables.operations.push(0);
@@ -197,7 +194,7 @@ fn left_by(rule: Rule, turns: i32) -> Bench {
     assert_eq!(bench.ins(1, turned(B, turns)), OK);
     let west = 7 + turns * 16;
     let place = row_from(4, west, 16).expect("a rectangle of 32 bits");
-    assert_eq!(bench.sweep(2, Sweep::Delete, place), (0, 0));
+    assert_eq!(bench.sweep(2, Sweep::Delete, place), DONE);
     assert_eq!(bench.commit(1), DONE);
     bench
 }

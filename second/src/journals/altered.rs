@@ -1,6 +1,7 @@
 //! Journals that were whole before something was cut, changed, put in or turned round.
 
-use crate::journal::Record;
+use crate::journal::{Record, Recorded};
+use crate::journals::forms::in_some_form;
 use crate::journals::walk::{bytes_of, short_walk, some_record};
 use crate::operation::Procedure;
 use crate::random::Random;
@@ -16,10 +17,12 @@ pub fn cut(random: &mut Random) -> Vec<u8> {
 /// A byte that some field may have, or any.
 fn some_byte(random: &mut Random) -> u8 {
     let stray = random.byte();
-    random.pick(&[0, 1, 2, 3, 4, 5, 7, 8, 16, 63, 64, 68, 255, stray, stray])
+    random.pick(&[
+        0, 1, 2, 3, 4, 5, 6, 7, 8, 9, 16, 63, 64, 68, 255, stray, stray,
+    ])
 }
 
-/// One byte of one record is changed: tag, length, job, procedure, answer and key alike.
+/// One byte of one record is changed: tag, length, job, procedure, answer, key and sheet alike.
 pub fn damaged(random: &mut Random) -> Vec<u8> {
     let records = short_walk(random);
     let before = random.below(records.len());
@@ -36,8 +39,9 @@ pub fn damaged(random: &mut Random) -> Vec<u8> {
 /// of its field.
 pub fn with_wrong_tail(random: &mut Random) -> Vec<u8> {
     let mut journal = bytes_of(&short_walk(random));
-    let record = [2, 0, 7, 63, 3, 1, 0x40, 0x03, 0xC0, 0x05];
-    let mut tail = record[..random.between(1, 9)].to_vec();
+    let old: &[u8] = &[2, 0, 7, 63, 3, 1, 0x40, 0x03, 0xC0, 0x05];
+    let record = random.pick(&[old, &[6, 0, 9, 63, 3, 1, 0x40, 0x03, 0xC0, 0x05, 0, 9]]);
+    let mut tail = record[..random.between(1, record.len() - 1)].to_vec();
     let (first, count) = if random.one_in(2) {
         (random.below(tail.len()), 1)
     } else {
@@ -108,8 +112,9 @@ pub fn with_wrong_answer(random: &mut Random) -> Vec<u8> {
 
 fn answer_of(record: &mut Record, only_members: bool) -> Option<&mut bool> {
     match record {
-        Record::Operation { procedure, ok, .. } => {
-            Some(ok).filter(|_| *procedure == Procedure::Member || !only_members)
+        Record::Operation(recorded) => {
+            let is_member = recorded.procedure == Procedure::Member;
+            Some(&mut recorded.ok).filter(|_| is_member || !only_members)
         }
         Record::Open(_) | Record::Commit(_) | Record::Abort(_) | Record::JobAsOne => None,
     }
@@ -123,11 +128,14 @@ pub fn refused_and_wrong(random: &mut Random) -> Vec<u8> {
         None => return journal,
         Some(tile) => tile,
     };
-    let operation = |job, procedure, ok| Record::Operation {
-        job,
-        procedure,
-        ok,
-        tile,
+    let operation = |job, procedure, ok| {
+        Record::Operation(Recorded {
+            job,
+            procedure,
+            ok,
+            tile,
+            sheet: None,
+        })
     };
     let tail = [
         Record::Open(holder),
@@ -136,6 +144,6 @@ pub fn refused_and_wrong(random: &mut Random) -> Vec<u8> {
         operation(job, Procedure::Member, random.one_in(3)),
         Record::Commit(holder),
     ];
-    journal.extend(bytes_of(&tail));
+    journal.extend(bytes_of(&in_some_form(random, tail.to_vec())));
     journal
 }

@@ -1,6 +1,7 @@
 //! Journals up to the last byte, the last tile place and the last operations place, and past them.
 
-use crate::journal::Record;
+use crate::journal::{Record, Recorded};
+use crate::journals::forms::in_some_form;
 use crate::journals::walk::{bytes_of, walk};
 use crate::operation::Procedure;
 use crate::random::Random;
@@ -41,7 +42,7 @@ pub fn too_many_tiles(random: &mut Random) -> Vec<u8> {
     let batch = random.between(500, MOST_OPERATIONS);
     let mut records = some_head(random);
     records.extend(inserted(tiles, batch));
-    bytes_of(&records)
+    bytes_of(&in_some_form(random, records))
 }
 
 /// Job 5 inserts so many tiles, committing batch by batch.
@@ -78,7 +79,7 @@ pub fn replaced(random: &mut Random) -> Vec<u8> {
     let new_tiles = tiles..tiles + random.below(4);
     records.extend(new_tiles.filter_map(|n| nth_operation(6, Procedure::Insert, true, n)));
     records.push(random.pick(&[Record::Commit(6), Record::Abort(6), Record::Open(7)]));
-    bytes_of(&records)
+    bytes_of(&in_some_form(random, records))
 }
 
 /// Two jobs look at tile after tile, up to the last place of the operations table or past it.
@@ -92,18 +93,18 @@ pub fn too_many_operations(random: &mut Random) -> Vec<u8> {
     }
     records.push(Record::Commit(1));
     records.extend(nth_operation(2, Procedure::Insert, true, operations));
-    bytes_of(&records)
+    bytes_of(&in_some_form(random, records))
 }
 
 /// An operation on the n-th of many tiles.
 fn nth_operation(job: u8, procedure: Procedure, ok: bool, n: usize) -> Option<Record> {
     let column = i32::try_from(n / 128).ok()?;
     let row = i32::try_from(n % 128).ok()?;
-    let tile = Tile::at(7, -column, row)?;
-    Some(Record::Operation {
+    Some(Record::Operation(Recorded {
         job,
         procedure,
         ok,
-        tile,
-    })
+        tile: Tile::at(7, -column, row)?,
+        sheet: None,
+    }))
 }

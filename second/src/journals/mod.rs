@@ -1,15 +1,17 @@
-//! Random journals by both rules: whole, cut, damaged, spliced, refused and too long. A seed gives
-//! always the same journal.
+//! Random journals by both rules and with both forms of operation records: whole, cut, damaged,
+//! spliced, refused and too long. A seed gives always the same journal.
 
 mod altered;
+mod forms;
 mod large;
 mod rule_records;
 mod walk;
 
 use crate::random::Random;
+pub use forms::some_sheet;
 
 /// Every kind of journal comes in its turn, so that each is met often.
-pub const KINDS: u64 = 24;
+pub const KINDS: u64 = 28;
 
 pub fn journal(seed: u64) -> Vec<u8> {
     let mut random = Random::seeded(seed);
@@ -32,7 +34,10 @@ pub fn journal(seed: u64) -> Vec<u8> {
         20 => large::replaced(random),
         21 => rule_records::put_in(random),
         22 => rule_records::at_the_beginning(random),
-        _ => rule_records::left_out(random),
+        23 => rule_records::left_out(random),
+        24 => forms::with_changed_sheets(random),
+        25 => forms::with_the_other_head(random),
+        _ => forms::cut_inside_an_operation(random),
     }
 }
 
@@ -41,7 +46,7 @@ const SHORT: usize = 240;
 
 /// A short journal with anything wrong in it, or nothing.
 pub fn short_journal(random: &mut Random) -> Vec<u8> {
-    let mut journal = match random.below(11) {
+    let mut journal = match random.below(14) {
         0 => altered::cut(random),
         1 => altered::damaged(random),
         2 => altered::with_wrong_tail(random),
@@ -51,6 +56,9 @@ pub fn short_journal(random: &mut Random) -> Vec<u8> {
         6 => rule_records::put_in(random),
         7 => rule_records::at_the_beginning(random),
         8 => rule_records::left_out(random),
+        9 => forms::with_changed_sheets(random),
+        10 => forms::with_the_other_head(random),
+        11 => forms::cut_inside_an_operation(random),
         _ => walk::bytes_of(&walk::short_walk(random)),
     };
     journal.truncate(SHORT);

@@ -1,6 +1,7 @@
 //! Records of random calls that the service accepted.
 
-use crate::journal::Record;
+use crate::journal::{Record, Recorded};
+use crate::journals::forms::{in_some_form, some_sheet};
 use crate::operation::PROCEDURES;
 use crate::random::Random;
 use crate::replay::{take, Stop};
@@ -28,29 +29,23 @@ pub fn some_record(random: &mut Random) -> Option<Record> {
         0 | 1 => Record::Open(job),
         2 => Record::Commit(job),
         3 => Record::Abort(job),
-        _ => Record::Operation {
+        _ => Record::Operation(Recorded {
             job,
             procedure: random.pick(&PROCEDURES),
             ok: true,
             tile: some_tile(random)?,
-        },
+            sheet: Some(some_sheet(random)).filter(|_| random.one_in(2)),
+        }),
     })
 }
 
 /// The same record with the answer fail.
 fn failed(record: Record) -> Record {
     match record {
-        Record::Operation {
-            job,
-            procedure,
-            tile,
-            ..
-        } => Record::Operation {
-            job,
-            procedure,
+        Record::Operation(recorded) => Record::Operation(Recorded {
             ok: false,
-            tile,
-        },
+            ..recorded
+        }),
         Record::Open(_) | Record::Commit(_) | Record::Abort(_) | Record::JobAsOne => record,
     }
 }
@@ -77,10 +72,10 @@ pub fn walk_by(rule: Rule, random: &mut Random, tries: usize) -> Vec<Record> {
         None => return Vec::new(),
         Some(state) => state,
     };
-    let records = (0..tries)
-        .filter_map(|_| some_record(random))
-        .filter_map(|record| accepted(&mut state, record));
-    Record::naming(rule).into_iter().chain(records).collect()
+    let tried = (0..tries).filter_map(|_| some_record(random));
+    let records = tried.filter_map(|record| accepted(&mut state, record));
+    let records = Record::naming(rule).into_iter().chain(records).collect();
+    in_some_form(random, records)
 }
 
 pub fn short_walk(random: &mut Random) -> Vec<Record> {

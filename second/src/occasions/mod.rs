@@ -3,27 +3,51 @@
 //! that none is left out.
 
 mod editions;
+mod forms;
+mod listed;
 mod mending;
 mod named;
 mod own_tiles;
 mod places;
 mod rectangles;
+mod rooms;
+mod sheets;
 mod turns;
 
 use crate::console::Console;
 use crate::line::Command;
-use named::{applying, names_of};
-use places::place_of;
+use listed::{listed, Listed};
+use named::{applying, name_of_call, names_of};
+use places::{place_of, OPERATION, RECTANGLE};
 
 /// The occasions that a command is, on the console as it stands.
-pub fn occasions(console: &Console, command: Command) -> Vec<&'static str> {
-    [
+pub fn occasions(console: &Console, command: Command) -> Vec<String> {
+    let names = [
         applying(&own_tiles::NAMED, own_tiles::known(console, command)),
         applying(&rectangles::SHAPES, rectangles::shape(command)),
-        applying(&rectangles::ROOMS, rectangles::rooms(console, command)),
         applying(&mending::NAMED, mending::known(console, command)),
     ]
-    .concat()
+    .concat();
+    let listed = listed(console, command);
+    let of_list = listed.map_or(Vec::new(), |listed| occasions_listed(console, &listed));
+    let names = names.into_iter().map(str::to_string);
+    let of_journal = forms::of_command(console, command);
+    names.chain(of_list).chain(of_journal).collect()
+}
+
+fn occasions_listed(console: &Console, listed: &Listed) -> Vec<String> {
+    let names = [
+        applying(&rooms::NAMED, rooms::known(console, listed)),
+        applying(&sheets::NAMED, sheets::known(listed)),
+    ]
+    .concat();
+    let of_call = |name| name_of_call(listed.call, name);
+    names.into_iter().map(of_call).collect()
+}
+
+/// The occasions that a printed replay of the journal is.
+pub fn occasions_printed(journal: &[u8]) -> Vec<String> {
+    forms::of_printed(journal)
 }
 
 /// The occasions that a command is by the number that it is answered.
@@ -35,11 +59,16 @@ pub fn occasions_told(command: Command, number: u8) -> Vec<String> {
 }
 
 pub fn all_names() -> impl Iterator<Item = String> {
+    let of_calls = [OPERATION, RECTANGLE].into_iter().flat_map(|call| {
+        let names = names_of(&rooms::NAMED).chain(names_of(&sheets::NAMED));
+        names.map(move |name| name_of_call(call, name))
+    });
     names_of(&own_tiles::NAMED)
         .chain(names_of(&rectangles::SHAPES))
-        .chain(names_of(&rectangles::ROOMS))
         .chain(names_of(&mending::NAMED))
         .map(str::to_string)
+        .chain(of_calls)
         .chain(turns::all_names())
         .chain(editions::all_names())
+        .chain(forms::all_names())
 }

@@ -7,6 +7,11 @@ pub fn names_of<T>(named: &'static [Named<T>]) -> impl Iterator<Item = &'static 
     named.iter().map(|(name, _)| *name)
 }
 
+/// The name of what may happen to several calls, for one of them.
+pub fn name_of_call(call: &str, name: &str) -> String {
+    format!("{} {}", call, name)
+}
+
 /// The names that apply; none where the command is nothing of the sort.
 pub fn applying<T>(named: &[Named<T>], known: Option<T>) -> Vec<&'static str> {
     let known = match known {

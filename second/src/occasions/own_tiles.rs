@@ -66,9 +66,9 @@ fn known_of(console: &Console, call: Call) -> Option<Known> {
         Call::Start(_, Rule::JobAsOne) => Some(Known::Start {
             journal: console.tables.journal.len(),
         }),
-        Call::Operate(job, procedure, address) => {
+        Call::Operate(origin, procedure, address) => {
             let state = state_by_rule_2(console)?;
-            Some(operation(&state, job, procedure, address.tile()?))
+            Some(operation(&state, origin.job, procedure, address.tile()?))
         }
         Call::Abort(job) => Some(abort(&state_by_rule_2(console)?, job)),
         Call::Start(_, Rule::EachAlone) | Call::Open(_) | Call::Commit(_) => None,
@@ -101,6 +101,6 @@ fn abort(state: &State, job: u8) -> Known {
 /// The tiles that an open job changed, in order, each as often as it did.
 fn changes_of(state: &State, job: u8) -> Vec<Tile> {
     let entries = state.admitted.iter();
-    let changed = entries.filter(|entry| entry.job == job && entry.kind.changes_tiles());
+    let changed = entries.filter(|entry| entry.job() == job && entry.kind.changes_tiles());
     changed.map(|entry| entry.tile).collect()
 }

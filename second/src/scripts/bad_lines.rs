@@ -7,24 +7,26 @@ use crate::session::Tables;
 #[derive(Clone, Copy)]
 enum Type {
     Small,
+    Sheet,
     Signed,
     Count,
     Entry,
 }
 
-use Type::{Count, Entry, Signed, Small};
+use Type::{Count, Entry, Sheet, Signed, Small};
 
 type Form = (&'static str, &'static [Type]);
 
-const RECTANGLE: [Type; 7] = [Small, Small, Small, Signed, Signed, Signed, Signed];
+const OPERATION: [Type; 6] = [Small, Sheet, Small, Small, Signed, Signed];
+const RECTANGLE: [Type; 8] = [Small, Sheet, Small, Small, Signed, Signed, Signed, Signed];
 
 const FORMS: [Form; 23] = [
     ("lend", &[Count, Count, Count]),
     ("start", &[Count, Small]),
     ("open", &[Small]),
-    ("ins", &[Small, Small, Small, Signed, Signed]),
-    ("del", &[Small, Small, Small, Signed, Signed]),
-    ("mem", &[Small, Small, Small, Signed, Signed]),
+    ("ins", &OPERATION),
+    ("del", &OPERATION),
+    ("mem", &OPERATION),
     ("insall", &RECTANGLE),
     ("delall", &RECTANGLE),
     ("commit", &[Small]),
@@ -83,6 +85,7 @@ const ODD_NUMBERS: [&str; 22] = [
 fn beyond(random: &mut Random, kind: Type) -> &'static str {
     match kind {
         Small => random.pick(&["256", "257", "1000", "-1", "4294967296"]),
+        Sheet => random.pick(&["65536", "65537", "131072", "-1", "4294967296"]),
         Signed => random.pick(&[
             "2147483648",
             "-2147483649",
@@ -104,7 +107,7 @@ fn beyond(random: &mut Random, kind: Type) -> &'static str {
 /// A number of the type, small so that nothing large is lent by accident.
 fn within(random: &mut Random, kind: Type) -> String {
     match kind {
-        Small | Count => random.below(4).to_string(),
+        Small | Sheet | Count => random.below(4).to_string(),
         Signed => random.pick(&["0", "-1", "5", "15", "16"]).to_string(),
         Entry => random.number().to_string(),
     }

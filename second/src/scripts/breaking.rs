@@ -14,13 +14,14 @@ use crate::soundness::{requirements_of, Requirement};
 pub fn break_a_requirement(writer: &mut Writer, pool: &Pool) {
     let asked: Vec<Requirement> = requirements_of(writer.console.session.rule).collect();
     let requirement = writer.random.pick(&asked);
-    let damage = if writer.random.one_in(15) {
-        other_rule(writer)
-    } else {
-        match damage_to(writer, requirement) {
-            None => return,
-            Some(damage) => damage,
-        }
+    let damage = match writer.random.below(30) {
+        0..=1 => Some(other_rule(writer)),
+        2..=3 => wrong_entries::other_sheet(writer),
+        _ => damage_to(writer, requirement),
+    };
+    let damage = match damage {
+        None => return,
+        Some(damage) => damage,
     };
     for line in &damage.breaking {
         writer.tell(line);

@@ -1,5 +1,7 @@
 //! Random calls of all kinds, chosen to be accepted often.
 
+use crate::journals::some_sheet;
+use crate::operation::Origin;
 use crate::random::Random;
 use crate::rule::RULES;
 use crate::scripts::addresses::{anywhere, refused, Pool};
@@ -56,7 +58,10 @@ fn any_call(writer: &mut Writer, pool: &Pool) -> String {
         5 => format!("{} {}", random.pick(&["commit", "abort"]), job),
         6 => address_step(random, pool),
         7 => read_somewhere(writer),
-        9 => rectangles::some_line(random, pool, job),
+        9 => {
+            let origin = some_origin(random, job);
+            rectangles::some_line(random, pool, origin)
+        }
         8 if random.one_in(6) => {
             let tiles = writer.console.session.tiles;
             format!("start {} {}", tiles, random.pick(&RULES).number())
@@ -65,16 +70,22 @@ fn any_call(writer: &mut Writer, pool: &Pool) -> String {
     }
 }
 
+fn some_origin(random: &mut Random, job: u8) -> Origin {
+    let sheet = some_sheet(random);
+    Origin { job, sheet }
+}
+
 /// A rectangle of some job.
 pub fn rectangle(writer: &mut Writer, pool: &Pool) {
     let job = some_job(writer);
-    let line = rectangles::some_line(&mut writer.random, pool, job);
+    let origin = some_origin(&mut writer.random, job);
+    let line = rectangles::some_line(&mut writer.random, pool, origin);
     writer.tell(line);
 }
 
 pub fn operation(random: &mut Random, pool: &Pool, job: u8) -> String {
     let word = random.pick(&["ins", "ins", "ins", "del", "del", "mem"]);
-    operation_line(word, job, pool.any(random))
+    operation_line(word, some_origin(random, job), pool.any(random))
 }
 
 fn address_step(random: &mut Random, pool: &Pool) -> String {

@@ -4,7 +4,7 @@
 use crate::address::Address;
 use crate::rectangle::Rectangle;
 use crate::scripts::addresses::{in_other_edition, last_row, no_edition};
-use crate::scripts::spelling::{address_line, operation_line};
+use crate::scripts::spelling::address_line;
 use crate::scripts::sweeping::sweep_alone;
 use crate::scripts::writer::Writer;
 
@@ -12,7 +12,7 @@ pub fn episode(writer: &mut Writer) {
     let zoom = writer.next_level();
     let editions = [1, 2, no_edition(&mut writer.random)];
     // Room for the highest rectangle.
-    writer.lend(260, 260, 2700);
+    writer.lend(260, 260, 3200);
     writer.start(0);
     writer.tell("open 1");
     writer.tell("open 2");
@@ -59,9 +59,9 @@ fn step_and_operate(writer: &mut Writer, edition: u8, zoom: u8, row: i32) {
     };
     writer.tell(address_line(place));
     let word = writer.random.pick(&["ins", "del", "mem"]);
-    writer.tell(operation_line(word, 1, place));
+    writer.operate(word, 1, place);
     if place.tile().is_some() {
-        writer.tell(operation_line("mem", 2, in_other_edition(place)));
+        writer.operate("mem", 2, in_other_edition(place));
     }
     writer.sum_mostly();
 }

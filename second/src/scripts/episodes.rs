@@ -1,6 +1,6 @@
 //! Episodes: each lends its own tables and has its own matter.
 
-use crate::rule::RULES;
+use crate::rule::{Rule, RULES};
 use crate::scripts::addresses::Pool;
 use crate::scripts::breaking;
 use crate::scripts::calls;
@@ -23,7 +23,7 @@ const EPISODES: [(usize, Episode); 23] = [
     (130, side_by_side),
     (65, small_journal),
     (95, from_nowhere),
-    (105, broken_tables),
+    (160, broken_tables),
     (40, wild_damage),
     (45, replays::episode),
     (35, replays::foreign_journal),
@@ -184,9 +184,10 @@ fn limits(writer: &mut Writer) {
         _ => journal = random.pick(&[0, 1, 3, 3, 4, 4, 7, 8, 9, 11, 12]),
     }
     writer.lend(tiles, operations, journal);
-    let rule = writer.random.pick(&RULES).number();
-    writer.tell(format!("rule {}", rule));
-    pass_the_journal(writer);
+    for rule in RULES {
+        writer.tell(format!("rule {}", rule.number()));
+        pass_the_journal(writer);
+    }
     let pool = Pool::few(&mut writer.random);
     let mut starting = pool.some_tiles(&mut writer.random);
     if writer.random.one_in(2) {
@@ -199,6 +200,8 @@ fn limits(writer: &mut Writer) {
     }
     // Without a start, too: what a lend leaves is a session as good as a started one.
     if writer.random.one_in(2) {
+        writer.start_by(Rule::JobAsOne, count);
+        calls::run(writer, &pool, 4);
         writer.start(count);
     }
     calls::run(writer, &pool, 8);

@@ -2,7 +2,8 @@
 
 use crate::scripts::addresses::{nth_tile, Pool};
 use crate::scripts::calls;
-use crate::scripts::spelling::{address_of, operation_line};
+use crate::scripts::nowhere::{entry_number, with_sheet};
+use crate::scripts::spelling::address_of;
 use crate::scripts::writer::Writer;
 use crate::session::{MOST_JOURNAL, MOST_OPERATIONS, MOST_TILES};
 
@@ -19,7 +20,7 @@ fn run_through(writer: &mut Writer, word: &str, job: u8, first: usize) {
             None => return,
             Some(tile) => address_of(&mut writer.random, tile),
         };
-        let answer = writer.tell(operation_line(word, job, place));
+        let answer = writer.operate(word, job, place);
         n += 1;
         if answer.starts_with("reply 8 ") {
             writer.tell(format!("commit {}", job));
@@ -99,7 +100,7 @@ pub fn fill_operations_from_outside(writer: &mut Writer) {
         .map(|tile| tile.key())
         .collect();
     for (place, key) in tiles.iter().enumerate() {
-        let entry = (6u64 << 40) + (6u64 << 32) + u64::from(*key);
+        let entry = with_sheet(entry_number(6, 6, u64::from(*key)), place as u16);
         writer.tell(format!("entry {} {}", place, entry));
     }
     writer.tell(format!("operations {}", used));

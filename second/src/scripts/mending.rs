@@ -7,13 +7,13 @@ use crate::random::Random;
 use crate::replay::stopped;
 use crate::scripts::addresses::EDITIONS;
 use crate::scripts::rectangles::sized;
-use crate::scripts::spelling::rectangle_line;
 use crate::scripts::writer::Writer;
 use crate::session::{length_of, MOST_JOURNAL, MOST_OPERATIONS};
 
-/// Tiles of the rectangles that fill a journal, and bytes of their records.
+/// Tiles of the rectangles that fill a journal, and bytes of a record and of all of them.
 const SWEPT: usize = 256;
-const SWEPT_BYTES: usize = 10 * SWEPT;
+const RECORD_BYTES: usize = 12;
+const SWEPT_BYTES: usize = RECORD_BYTES * SWEPT;
 
 /// Mends so many bytes onto the tile table with this count.
 pub fn mend(writer: &mut Writer, count: usize, length: usize) {
@@ -53,7 +53,7 @@ fn free_bytes(writer: &Writer) -> usize {
 fn delete_absent(writer: &mut Writer, width: i32) {
     let edition = writer.random.pick(&EDITIONS);
     let rectangle = sized(edition, 9, (-3, 0), width, 1);
-    writer.tell(rectangle_line("delall", 1, rectangle));
+    writer.sweep("delall", 1, rectangle);
 }
 
 /// Job 1 deletes what is not there, rectangle after rectangle, until few bytes are left; these are
@@ -74,9 +74,9 @@ fn fill_journal(writer: &mut Writer) {
     writer.tell("open 1");
     // So many records that what is left can be used up by opens, which take eight bytes each.
     let free = free_bytes(writer);
-    let operations = (0..=free / 10)
+    let operations = (0..=free / RECORD_BYTES)
         .rev()
-        .find(|count| (free - 10 * count) % 8 == 0);
+        .find(|count| (free - RECORD_BYTES * count) % 8 == 0);
     let width = operations.and_then(|count| i32::try_from(count).ok());
     delete_absent(writer, width.unwrap_or(1));
     for job in 2..2 + free_bytes(writer) / 8 {

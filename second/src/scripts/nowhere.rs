@@ -1,6 +1,7 @@
 //! Sound sessions that come from nowhere: put together place by place, not reached by calls.
 
-use crate::operation::{Admitted, Kind, KINDS};
+use crate::journals::some_sheet;
+use crate::operation::{Admitted, Kind, Origin, KINDS};
 use crate::random::Random;
 use crate::rule::{Rule, RULES};
 use crate::scripts::addresses::Pool;
@@ -11,16 +12,22 @@ use crate::tile::Tile;
 
 const JOBS: [u8; 7] = [0, 1, 2, 3, 31, 62, 63];
 
-/// An entry of an operations table, as a number.
+/// An entry of an operations table, as a number, for sheet 0.
 pub fn entry_number(kind: u64, job: u64, key: u64) -> u64 {
     kind * (1 << 40) + job * (1 << 32) + key
 }
 
+/// The same entry for another sheet.
+pub fn with_sheet(entry: u64, sheet: u16) -> u64 {
+    entry % (1 << 48) + u64::from(sheet) * (1 << 48)
+}
+
 fn number_of(entry: &Admitted) -> u64 {
-    entry_number(
-        entry.kind.number(),
-        u64::from(entry.job),
-        u64::from(entry.tile.key()),
+    let Origin { job, sheet } = entry.origin;
+    let key = u64::from(entry.tile.key());
+    with_sheet(
+        entry_number(entry.kind.number(), u64::from(job), key),
+        sheet,
     )
 }
 
@@ -33,7 +40,7 @@ fn last_change(entries: &[Admitted], tile: Tile) -> Option<Admitted> {
 fn may_follow(rule: Rule, entry: &Admitted, change: &Admitted) -> bool {
     match rule {
         Rule::EachAlone => false,
-        Rule::JobAsOne => entry.job == change.job && entry.kind != change.kind,
+        Rule::JobAsOne => entry.job() == change.job() && entry.kind != change.kind,
     }
 }
 
@@ -43,11 +50,15 @@ fn some_entries(random: &mut Random, rule: Rule, jobs: &[u8], tiles: &[Tile]) ->
         let tile = random.pick(tiles);
         let change = last_change(&entries, tile);
         let job = match change {
-            Some(change) if !random.one_in(6) => change.job,
+            Some(change) if !random.one_in(6) => change.job(),
             _ => random.pick(jobs),
         };
-        let kind = random.pick(&KINDS);
-        let entry = Admitted { kind, job, tile };
+        let sheet = some_sheet(random);
+        let entry = Admitted {
+            kind: random.pick(&KINDS),
+            origin: Origin { job, sheet },
+            tile,
+        };
         if change.map_or(true, |change| may_follow(rule, &entry, &change)) {
             entries.push(entry);
         }
@@ -90,7 +101,7 @@ pub fn put_sound_session(writer: &mut Writer, pool: &Pool) {
     let operations = (state.admitted.len() + random.pick(&[0, 0, 1, 2, 6])).max(1);
     let used = random.below(40);
     let endings = 4 * state.open.len();
-    let journal = used + endings + random.pick(&[0, 3, 4, 7, 8, 9, 10, 11, 40, 100]);
+    let journal = used + endings + random.pick(&[0, 3, 4, 7, 8, 9, 11, 12, 13, 40, 100]);
     writer.lend(places, operations, journal);
     put_parts(writer, &state);
     put_journal(writer, used);

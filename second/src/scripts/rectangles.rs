@@ -1,6 +1,7 @@
 //! Rectangles in both editions: few tiles near the others, across the seam, and at the edges of
 //! what is taken.
 
+use crate::operation::Origin;
 use crate::random::Random;
 use crate::rectangle::Rectangle;
 use crate::scripts::addresses::{anywhere, ends_of_turns, no_edition, some_level, Pool, EDITIONS};
@@ -70,10 +71,10 @@ pub fn sized(edition: u8, zoom: u8, from: (i32, i32), width: i32, height: i32) -
     between(edition, zoom, columns, (from.1, end(from.1, height)))
 }
 
-pub fn some_line(random: &mut Random, pool: &Pool, job: u8) -> String {
+pub fn some_line(random: &mut Random, pool: &Pool, origin: Origin) -> String {
     let word = random.pick(&["insall", "insall", "delall"]);
     let rectangle = some_rectangle(random, pool);
-    rectangle_line(word, job, rectangle)
+    rectangle_line(word, origin, rectangle)
 }
 
 fn some_rectangle(random: &mut Random, pool: &Pool) -> Rectangle {

@@ -1,11 +1,13 @@
 //! Large tables by rule 2 in which one job deleted many tiles and inserted them again, with damage
 //! deep inside them.
 
+use crate::journals::some_sheet;
 use crate::random::Random;
 use crate::scripts::addresses::nth_tile;
-use crate::scripts::nowhere::entry_number;
+use crate::scripts::nowhere::{entry_number, with_sheet};
 use crate::scripts::writer::Writer;
 use crate::session::MOST_OPERATIONS;
+use crate::soundness::{key_of, kind_of};
 
 /// The job whose entries these are, and another one that is open.
 const OWNER: u64 = 6;
@@ -23,26 +25,31 @@ fn nth_entry(kind: u64, job: u64, n: usize) -> u64 {
 fn entries_of(random: &mut Random, tiles: usize) -> Vec<u64> {
     let removed = (0..tiles).map(|n| nth_entry(REMOVED, OWNER, n));
     let added = (0..tiles).map(|n| nth_entry(ADDED, OWNER, n));
-    if random.one_in(2) {
-        return removed.chain(added).collect();
+    let mut entries: Vec<u64> = if random.one_in(2) {
+        removed.chain(added).collect()
+    } else {
+        let pairs = removed.zip(added);
+        pairs.flat_map(|(one, other)| [one, other]).collect()
+    };
+    for entry in entries.iter_mut() {
+        *entry = with_sheet(*entry, some_sheet(random));
     }
-    removed
-        .zip(added)
-        .flat_map(|(removed, added)| [removed, added])
-        .collect()
+    entries
 }
 
-/// The same entry with another kind, job or tile.
+/// The same entry with another kind, job or tile, and for another sheet, which never matters.
 fn altered(random: &mut Random, entry: u64, tiles: usize) -> u64 {
-    let (kind, key) = (entry >> 40, entry & 0xFFFF_FFFF);
-    match random.below(5) {
+    let (kind, key) = (kind_of(entry), u64::from(key_of(entry)));
+    let wrong = match random.below(6) {
         0 => entry_number(4 - kind, OWNER, key),
         1 => entry_number(random.pick(&[2, 4, 5, 6]), OWNER, key),
         2 => entry_number(kind, OTHER, key),
         3 => nth_entry(kind, OWNER, random.below(tiles)),
+        4 => entry,
         // A tile that no entry has: by rule 2 it may stand there alone, if it fits.
         _ => nth_entry(kind, OWNER, tiles + random.below(3)),
-    }
+    };
+    with_sheet(wrong, some_sheet(random))
 }
 
 fn damage_and_mend(writer: &mut Writer, entries: &[u64], tiles: usize) {
@@ -74,9 +81,9 @@ pub fn episode(writer: &mut Writer) {
     }
     writer.tell("sum");
     // The first of the tiles, in both editions.
-    writer.tell("ins 7 2 7 0 0");
-    writer.tell("del 6 1 7 0 127");
-    writer.tell("ins 6 2 7 0 0");
+    writer.tell("ins 7 1 2 7 0 0");
+    writer.tell("del 6 65535 1 7 0 127");
+    writer.tell("ins 6 0 2 7 0 0");
     writer.tell("abort 6");
     writer.tell("sum");
 }

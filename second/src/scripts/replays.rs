@@ -101,12 +101,13 @@ fn record_places(writer: &Writer) -> (Vec<usize>, usize) {
 /// A field of a record, by its place in the record, and a byte for it, mostly one it may have.
 fn some_field(random: &mut Random) -> (usize, u8) {
     let stray = random.byte();
-    match random.below(9) {
-        0 => (0, random.pick(&[0, 1, 2, 3, 4, 5, 255])),
-        1 => (random.pick(&[1, 2]), random.pick(&[0, 1, 7, 8, stray])),
+    match random.below(10) {
+        0 => (0, random.pick(&[0, 1, 2, 3, 4, 5, 6, 7, 255])),
+        1 => (random.pick(&[1, 2]), random.pick(&[0, 1, 7, 8, 9, stray])),
         2..=3 => (3, random.pick(&[0, 1, 2, 3, 62, 63, 64, 255])),
         4 => (4, random.pick(&[0, 1, 2, 3, 4])),
         5..=6 => (5, random.pick(&[0, 0, 1, 1, 2])),
+        7 => (random.pick(&[10, 11]), stray),
         _ => (random.pick(&[6, 7, 8, 9]), random.pick(&[16, 68, stray])),
     }
 }
@@ -130,7 +131,7 @@ fn damage_journal(writer: &mut Writer) {
 fn put_rule_record(writer: &mut Writer) {
     let journal = writer.console.used_journal();
     let (mut places, _) = record_places(writer);
-    places.retain(|place| journal[*place] != 2);
+    places.retain(|place| ![2, 6].contains(&journal[*place]));
     let record = match places.get(writer.random.below(places.len().min(3))) {
         None => return,
         Some(place) => *place,
@@ -145,7 +146,7 @@ fn put_rule_record(writer: &mut Writer) {
 /// Takes the used bytes to end inside the record, reads it, and gives them back.
 fn read_cut(writer: &mut Writer, record: usize) {
     let used = writer.console.session.journal;
-    let cut = record + writer.random.between(1, 9);
+    let cut = record + writer.random.between(1, 11);
     writer.tell(format!("journal {}", cut));
     writer.tell(format!("read {}", record));
     writer.tell(format!("journal {}", used));
@@ -158,7 +159,7 @@ fn turn_an_answer(writer: &mut Writer) {
     let (places, _) = record_places(writer);
     let answers: Vec<(usize, u8)> = places
         .iter()
-        .filter(|place| journal[**place..].starts_with(&[2, 0, 7]))
+        .filter(|place| [2, 6].contains(&journal[**place]))
         .filter(|place| journal[**place + 4] == 3 || !only_members)
         .map(|place| (place + 5, 1 - journal[place + 5]))
         .collect();
@@ -172,7 +173,7 @@ pub fn foreign_journal(writer: &mut Writer) {
     let bytes = short_journal(&mut writer.random);
     let tiles = writer.random.pick(&[1, 2, 3, 20]);
     let operations = writer.random.pick(&[1, 2, 3, 5, 100]);
-    let journal = bytes.len() + writer.random.below(6);
+    let journal = bytes.len() + writer.random.pick(&[0, 1, 4, 5, 80, 80]);
     writer.lend(tiles, operations, journal);
     for (place, byte) in bytes.iter().enumerate() {
         writer.tell(format!("byte {} {}", place, byte));
@@ -186,6 +187,10 @@ pub fn foreign_journal(writer: &mut Writer) {
     replay_or_mend(writer, 0, bytes.len());
     replay_often(writer, &pool);
     calls::read_here_and_there(writer, 5);
+    // The session that goes on behind these bytes knows nothing of what they say.
+    clear_tiles(writer);
+    calls::run(writer, &pool, 5);
+    replay_often(writer, &pool);
 }
 
 /// Calls that leave a journal, then readings and replays of it, whole and damaged.

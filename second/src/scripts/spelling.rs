@@ -1,6 +1,7 @@
 //! Calls as lines, and tiles as addresses.
 
 use crate::address::Address;
+use crate::operation::Origin;
 use crate::random::Random;
 use crate::rectangle::Rectangle;
 use crate::scripts::addresses::either_edition;
@@ -21,11 +22,13 @@ pub fn address_line(place: Address) -> String {
     format!("address {}", numbers(place))
 }
 
-pub fn operation_line(word: &str, job: u8, place: Address) -> String {
-    format!("{} {} {}", word, job, numbers(place))
+pub fn operation_line(word: &str, origin: Origin, place: Address) -> String {
+    let Origin { job, sheet } = origin;
+    format!("{} {} {} {}", word, job, sheet, numbers(place))
 }
 
-pub fn rectangle_line(word: &str, job: u8, rectangle: Rectangle) -> String {
+pub fn rectangle_line(word: &str, origin: Origin, rectangle: Rectangle) -> String {
+    let Origin { job, sheet } = origin;
     let Rectangle {
         edition,
         zoom,
@@ -34,7 +37,7 @@ pub fn rectangle_line(word: &str, job: u8, rectangle: Rectangle) -> String {
         top,
         bottom,
     } = rectangle;
-    format!("{word} {job} {edition} {zoom} {west} {east} {top} {bottom}")
+    format!("{word} {job} {sheet} {edition} {zoom} {west} {east} {top} {bottom}")
 }
 
 /// An address of the tile in either edition.

@@ -8,7 +8,7 @@ use crate::scripts::addresses::{nth_tile, Pool, EDITIONS};
 use crate::scripts::calls;
 use crate::scripts::rectangles::{at_an_edge, large, middling, sized};
 use crate::scripts::replays;
-use crate::scripts::spelling::{address_of, operation_line, rectangle_line};
+use crate::scripts::spelling::address_of;
 use crate::scripts::writer::Writer;
 use crate::session::{MOST_JOURNAL, MOST_OPERATIONS, MOST_TILES};
 use crate::tile::Tile;
@@ -59,7 +59,7 @@ pub fn at_the_last_place(writer: &mut Writer) {
     let opened = head + 4 * open_jobs;
     let places = about(writer, present.len() + absent);
     let operations = about(writer, entries);
-    let journal = about(writer, opened + 10 * entries + 4 * open_jobs);
+    let journal = about(writer, opened + 12 * entries + 4 * open_jobs);
     writer.lend(places, operations, journal);
     let count = writer.put_tiles(present);
     writer.start_by(rule, count);
@@ -68,7 +68,7 @@ pub fn at_the_last_place(writer: &mut Writer) {
     }
     for tile in deleted {
         let place = address_of(&mut writer.random, tile);
-        writer.tell(operation_line("del", 1, place));
+        writer.operate("del", 1, place);
     }
     sweep_and_end(writer, rectangle);
 }
@@ -88,7 +88,7 @@ fn sweep_and_end(writer: &mut Writer, rectangle: Rectangle) {
         .random
         .pick(&["insall", "insall", "insall", "delall"]);
     for word in [first, "delall", "insall"] {
-        writer.tell(rectangle_line(word, 1, rectangle));
+        writer.sweep(word, 1, rectangle);
         writer.tell("sum");
     }
     let end = writer.random.pick(&["commit 1", "abort 1"]);
@@ -116,19 +116,19 @@ pub fn held(writer: &mut Writer) {
         let word = writer.random.pick(&["ins", "ins", "del", "mem"]);
         let job = writer.random.pick(&[1, 2, 3]);
         let place = address_of(&mut writer.random, tile);
-        writer.tell(operation_line(word, job, place));
+        writer.operate(word, job, place);
         if writer.random.one_in(2) {
             let swept = writer.random.pick(&["insall", "delall"]);
             let job = writer.random.pick(&[1, 4, 4]);
-            writer.tell(rectangle_line(swept, job, rectangle));
+            writer.sweep(swept, job, rectangle);
         }
     }
-    writer.tell(rectangle_line("insall", 4, rectangle));
+    writer.sweep("insall", 4, rectangle);
     writer.tell("sum");
     for job in [2, 1, 3, 4] {
         let word = writer.random.pick(&["commit", "abort"]);
         writer.tell(format!("{} {}", word, job));
-        writer.tell(rectangle_line("insall", 4, rectangle));
+        writer.sweep("insall", 4, rectangle);
     }
     writer.tell("sum");
 }
@@ -136,7 +136,7 @@ pub fn held(writer: &mut Writer) {
 /// Rectangles at the edges of what is taken, one after another, with room for the largest.
 pub fn edges(writer: &mut Writer) {
     let pool = Pool::few(&mut writer.random);
-    writer.lend(260, 260, 2700);
+    writer.lend(260, 260, 3200);
     writer.start(0);
     writer.tell("open 1");
     for _ in 0..writer.random.between(8, 16) {
@@ -148,7 +148,7 @@ pub fn edges(writer: &mut Writer) {
 /// A rectangle of job 1, which is open. Where it is done a new start makes room for another.
 pub fn sweep_alone(writer: &mut Writer, rectangle: Rectangle) {
     let word = writer.random.pick(&["insall", "delall"]);
-    let answer = writer.tell(rectangle_line(word, 1, rectangle));
+    let answer = writer.sweep(word, 1, rectangle);
     if answer.starts_with("reply 0 ") {
         writer.tell("sum");
         writer.tell("abort 1");
@@ -167,11 +167,11 @@ pub fn fill_largest_tables(writer: &mut Writer) {
     for n in 0.. {
         let word = if n < 18 { "insall" } else { "delall" };
         let square = sized(edition, 9, (16 * (n % 18) - 32, 0), 16, 16);
-        let answer = writer.tell(rectangle_line(word, 1, square));
+        let answer = writer.sweep(word, 1, square);
         if answer.starts_with("reply 8 ") {
             writer.tell("commit 1");
             writer.tell("open 1");
-            writer.tell(rectangle_line(word, 1, square));
+            writer.sweep(word, 1, square);
         } else if !answer.starts_with("reply 0 ") {
             refusals += 1;
         }
@@ -203,7 +203,7 @@ pub fn on_many_tiles(writer: &mut Writer) {
         let rectangle = sized(2, 7, corner, width as i32, height as i32);
         let word = writer.random.pick(&["insall", "insall", "delall"]);
         let job = writer.random.pick(&[1, 1, 1, 2]);
-        writer.tell(rectangle_line(word, job, rectangle));
+        writer.sweep(word, job, rectangle);
         writer.tell("sum");
     }
     writer.tell("abort 1");

@@ -5,14 +5,14 @@ use crate::address::Address;
 use crate::rectangle::Rectangle;
 use crate::scripts::addresses::{ends_of_turns, EDITIONS};
 use crate::scripts::rectangles::sized;
-use crate::scripts::spelling::{address_line, operation_line};
+use crate::scripts::spelling::address_line;
 use crate::scripts::sweeping::sweep_alone;
 use crate::scripts::writer::Writer;
 
 pub fn episode(writer: &mut Writer) {
     let zoom = writer.next_level();
     // Room for the largest rectangle.
-    writer.lend(260, 260, 2700);
+    writer.lend(260, 260, 3200);
     writer.start(0);
     writer.tell("open 1");
     writer.tell("open 2");
@@ -41,7 +41,7 @@ fn step_and_operate(writer: &mut Writer, zoom: u8, column: i32) {
     writer.tell(address_line(place));
     let word = writer.random.pick(&["ins", "del", "mem"]);
     let job = writer.random.pick(&[1, 2]);
-    writer.tell(operation_line(word, job, place));
+    writer.operate(word, job, place);
     writer.sum_mostly();
 }
 

@@ -1,8 +1,9 @@
 //! Wild damage: numbers put anywhere, plausible or not, and nothing is mended.
 
+use crate::journals::some_sheet;
 use crate::rule::RULES;
 use crate::scripts::addresses::Pool;
-use crate::scripts::nowhere::entry_number;
+use crate::scripts::nowhere::{entry_number, with_sheet};
 use crate::scripts::writer::Writer;
 use crate::scripts::wrong_tiles::no_key;
 
@@ -72,6 +73,7 @@ fn wild_entry(writer: &mut Writer, pool: &Pool) -> u64 {
     };
     let kind = random.pick(&[1, 2, 3, 4, 5, 6, 0, 7]);
     let entry = entry_number(kind, u64::from(job), key);
+    let entry = with_sheet(entry, some_sheet(random));
     let stray = random.number();
     random.pick(&[entry, entry, entry, entry, 0, stray, u64::MAX])
 }

@@ -1,10 +1,15 @@
 //! Writes a script and follows along what its lines do, so that later lines can be chosen to fit.
 
+use crate::address::Address;
 use crate::console::Console;
+use crate::journals::some_sheet;
+use crate::operation::Origin;
 use crate::random::Random;
+use crate::rectangle::Rectangle;
 use crate::rule::{Rule, RULES};
 use crate::scripts::addresses::LEVELS;
 use crate::scripts::bad_lines;
+use crate::scripts::spelling::{operation_line, rectangle_line};
 use crate::tile::Tile;
 
 /// Tables with more numbers than this are summed up rarely.
@@ -86,6 +91,18 @@ impl Writer {
 
     pub fn lend(&mut self, tiles: usize, operations: usize, journal: usize) {
         self.tell(format!("lend {} {} {}", tiles, operations, journal));
+    }
+
+    /// An operation of the job for any sheet; gives the answer.
+    pub fn operate(&mut self, word: &str, job: u8, place: Address) -> String {
+        let sheet = some_sheet(&mut self.random);
+        self.tell(operation_line(word, Origin { job, sheet }, place))
+    }
+
+    /// A rectangle of the job for any sheet; gives the answer.
+    pub fn sweep(&mut self, word: &str, job: u8, rectangle: Rectangle) -> String {
+        let sheet = some_sheet(&mut self.random);
+        self.tell(rectangle_line(word, Origin { job, sheet }, rectangle))
     }
 
     /// A start by either rule.

@@ -1,13 +1,14 @@
 //! Damage to the used places of the operations table.
 
+use crate::journals::some_sheet;
 use crate::rule::Rule;
 use crate::scripts::addresses::nth_tile;
 use crate::scripts::damage::Damage;
-use crate::scripts::nowhere::entry_number;
+use crate::scripts::nowhere::{entry_number, with_sheet};
 use crate::scripts::writer::Writer;
 use crate::scripts::wrong_tiles::no_key;
 use crate::session::length_of;
-use crate::soundness::{is_change, job_of, key_of, kind_of};
+use crate::soundness::{is_change, job_of, key_of, kind_of, sheet_of};
 use crate::state::State;
 use crate::tile::Tile;
 
@@ -18,7 +19,8 @@ fn with_kind(entry: u64, kind: u64) -> u64 {
 
 fn with_job_and_kind(entry: u64, job: usize, kind: u64) -> u64 {
     let job = u64::try_from(job).unwrap_or(u64::MAX);
-    entry_number(kind, job, u64::from(key_of(entry)))
+    let other = entry_number(kind, job, u64::from(key_of(entry)));
+    with_sheet(other, sheet_of(entry))
 }
 
 fn used_entries(writer: &Writer) -> Vec<u64> {
@@ -58,9 +60,16 @@ fn put_entry(place: usize, wrong: u64, right: u64) -> Damage {
 
 pub fn wrong_kind(writer: &mut Writer) -> Option<Damage> {
     let (place, entry) = some_entry(writer)?;
-    let kinds = [0, 7, 8, 255, 256 + kind_of(entry), 16_777_215];
+    let kinds = [0, 7, 8, 255, 128 + kind_of(entry), 8 + kind_of(entry)];
     let wrong = with_kind(entry, writer.random.pick(&kinds));
     Some(put_entry(place, wrong, entry))
+}
+
+/// Every sheet is sound: only a holder is told by another one.
+pub fn other_sheet(writer: &mut Writer) -> Option<Damage> {
+    let (place, entry) = some_entry(writer)?;
+    let other = with_sheet(entry, some_sheet(&mut writer.random));
+    Some(put_entry(place, other, entry))
 }
 
 /// The job is not open, or no job at all.
@@ -163,6 +172,8 @@ pub fn one_removed_too_many(writer: &mut Writer) -> Option<Damage> {
         !named && !state.tiles.contains(tile)
     };
     let tiles = (first..).filter_map(nth_tile).filter(unknown);
-    let entries = tiles.map(|tile| entry_number(3, job, u64::from(tile.key())));
+    let sheet = some_sheet(&mut writer.random);
+    let entry = |tile: Tile| with_sheet(entry_number(3, job, u64::from(tile.key())), sheet);
+    let entries = tiles.map(entry);
     more_entries(writer, entries.take(free + 1).collect())
 }

@@ -24,17 +24,16 @@ pub fn no_key(random: &mut Random, key: u32) -> u32 {
     ])
 }
 
-/// One of the used tile places, with its key and the key behind it.
-fn some_tile(writer: &mut Writer) -> Option<(usize, u32, u32)> {
+fn used_tiles(writer: &Writer) -> Vec<u32> {
     let used = length_of(writer.console.session.tiles);
-    let place = writer.random.below(used);
-    let tiles = &writer.console.tables.tiles;
-    let next = tiles.get(place + 1).copied().unwrap_or(0);
-    tiles.get(place).map(|key| (place, *key, next))
+    let tiles = writer.console.tables.tiles.iter();
+    tiles.take(used).copied().collect()
 }
 
 pub fn wrong_key(writer: &mut Writer) -> Option<Damage> {
-    let (place, key, _) = some_tile(writer)?;
+    let tiles = used_tiles(writer);
+    let place = writer.random.below(tiles.len());
+    let key = *tiles.get(place)?;
     let wrong = no_key(&mut writer.random, key);
     Some(Damage::one(
         format!("tile {} {}", place, wrong),
@@ -44,10 +43,9 @@ pub fn wrong_key(writer: &mut Writer) -> Option<Damage> {
 
 /// Two tiles change their places, or one stands twice.
 pub fn wrong_order(writer: &mut Writer) -> Option<Damage> {
-    let (place, key, next) = some_tile(writer)?;
-    if next == 0 {
-        return None;
-    }
+    let tiles = used_tiles(writer);
+    let place = writer.random.below(tiles.len().saturating_sub(1));
+    let (key, next) = (*tiles.get(place)?, *tiles.get(place + 1)?);
     let twice = Damage::one(
         format!("tile {} {}", place + 1, key),
         format!("tile {} {}", place + 1, next),

@@ -9,7 +9,43 @@ use second::rule::Rule;
 use second::strictness::{run, Step, Tiles};
 use std::collections::BTreeSet;
 
+/// A journal with what its records are, and the tables that it is replayed onto.
+pub struct Chronicle {
+    rule: Rule,
+    start: Tiles,
+    tile_places: usize,
+    operation_places: usize,
+    journal: Vec<u8>,
+    log: Vec<Logged>,
+}
+
 impl Trial {
+    pub fn chronicle(&self) -> Chronicle {
+        Chronicle {
+            rule: self.rule,
+            start: self.start.clone(),
+            tile_places: self.bench.tables.tiles.len(),
+            operation_places: self.bench.tables.operations.len(),
+            journal: self.bench.journal().to_vec(),
+            log: self.log.clone(),
+        }
+    }
+}
+
+impl Chronicle {
+    /// The same with some operations in the old form.
+    pub fn with_old_records(mut self, mut is_old: impl FnMut() -> bool) -> Chronicle {
+        self.journal.truncate(self.head());
+        for logged in self.log.iter_mut() {
+            if let Record::Operation(recorded) = &mut logged.record {
+                recorded.sheet = recorded.sheet.filter(|_| !is_old());
+            }
+            self.journal.extend(logged.record.bytes());
+            logged.end = self.journal.len();
+        }
+        self
+    }
+
     /// Bytes before the first call's record: by rule 2 those of the rule record.
     fn head(&self) -> usize {
         match self.rule {
@@ -19,7 +55,7 @@ impl Trial {
     }
 
     pub fn reads_back(&self) {
-        let mut reader = Reader::at(self.bench.journal(), 0);
+        let mut reader = Reader::at(&self.journal, 0);
         if self.rule == Rule::JobAsOne {
             assert_eq!(reader.read(), Reading::Whole(Record::JobAsOne));
         }
@@ -36,14 +72,14 @@ impl Trial {
     }
 
     /// The offset behind the last whole record of so many bytes.
-    pub fn offset(&self, length: usize) -> usize {
+    fn offset(&self, length: usize) -> usize {
         let head = Some(self.head()).filter(|head| *head <= length);
         let ends = self.whole(length).map(|logged| logged.end);
         ends.chain(head).max().unwrap_or(0)
     }
 
     /// The jobs that are open there, in rising order.
-    pub fn open_at(&self, length: usize) -> BTreeSet<u8> {
+    fn open_at(&self, length: usize) -> BTreeSet<u8> {
         let mut open = BTreeSet::new();
         for logged in self.whole(length) {
             match logged.record {
@@ -53,14 +89,14 @@ impl Trial {
                 Record::Commit(job) | Record::Abort(job) => {
                     open.remove(&job);
                 }
-                Record::Operation { .. } | Record::JobAsOne => {}
+                Record::Operation(_) | Record::JobAsOne => {}
             }
         }
         open
     }
 
     /// The tiles that the jobs leave whose commit is whole there.
-    pub fn committed_at(&self, length: usize) -> Tiles {
+    fn committed_at(&self, length: usize) -> Tiles {
         let commits = |logged: &&Logged| matches!(logged.record, Record::Commit(_));
         let committed: BTreeSet<usize> = self
             .whole(length)
@@ -78,23 +114,23 @@ impl Trial {
     }
 
     /// The tiles as a table with the session's places.
-    pub fn table(&self, tiles: &Tiles) -> Vec<u32> {
+    fn table(&self, tiles: &Tiles) -> Vec<u32> {
         let keys = tiles.iter().map(|tile| tile.key());
         let padded = keys.chain(std::iter::repeat(0));
-        padded.take(self.bench.tables.tiles.len()).collect()
+        padded.take(self.tile_places).collect()
     }
 
     /// What stands in the tables before a replay or a mend; the operations table may hold anything.
     fn tables_before(&self) -> (Vec<u32>, u32, Vec<u64>) {
-        let operations = vec![u64::MAX; self.bench.tables.operations.len()];
+        let operations = vec![u64::MAX; self.operation_places];
         (self.table(&self.start), self.start.len() as u32, operations)
     }
 
     pub fn cut_everywhere(&self) {
-        for length in 0..=self.bench.journal().len() {
+        for length in 0..=self.journal.len() {
             let left = self.committed_at(length);
             let (mut tiles, count, mut operations) = self.tables_before();
-            let journal = &self.bench.journal()[..length];
+            let journal = &self.journal[..length];
             let outcome = replay(journal, &mut tiles, count, &mut operations);
             assert_eq!(outcome.reply, 0);
             assert_eq!(outcome.offset as usize, self.offset(length));
@@ -108,8 +144,8 @@ impl Trial {
     /// Mends the journal cut at every byte into just enough room and into one byte less, and
     /// replays what comes out.
     pub fn mend_everywhere(&self) {
-        for length in 0..=self.bench.journal().len() {
-            let journal = &self.bench.journal()[..length];
+        for length in 0..=self.journal.len() {
+            let journal = &self.journal[..length];
             let mut due = journal[..self.offset(length)].to_vec();
             let open = self.open_at(length);
             due.extend(open.iter().flat_map(|job| [4, 0, 1, *job]));

@@ -1,8 +1,8 @@
 //! The reply to an operation by the definitions alone, and what they leave open.
 
 use super::history::{Done, Trial};
-use super::{held, refused};
-use second::operation::{Procedure, Recovery};
+use super::{held_by, refused, Told};
+use second::operation::{Origin, Procedure, Recovery};
 use second::rule::Rule;
 use second::strictness::{commutes, most_tiles, step_on, strict, Step};
 use second::tile::Tile;
@@ -10,13 +10,13 @@ use std::collections::BTreeSet;
 
 impl Trial {
     /// The journal has room for everything here.
-    pub fn due_reply(&mut self, job: u8, new: Step) -> (u8, u8, u8) {
+    pub fn due_reply(&mut self, job: u8, new: Step) -> Told {
         let mut with_new = self.steps();
         with_new.push(new);
         let holder = self.holder(job, new);
         self.compare_with_strictness(holder, &with_new);
         if let Some(holder) = holder {
-            return held(holder);
+            return held_by(holder);
         }
         if self.lacks_room(new, &with_new) {
             return refused(7);
@@ -24,71 +24,72 @@ impl Trial {
         if self.unfinished().count() >= self.bench.tables.operations.len() {
             return refused(8);
         }
-        (0, u8::from(new.ok), 0)
+        (0, u8::from(new.ok), 0, 0)
     }
 
-    /// The number and the holder that a rectangle gets: its operations are taken one after another,
-    /// each held or not as the tables stand now. Its steps, too.
+    /// What a rectangle is told: its operations are taken one after another, each held or not as
+    /// the tables stand now. Its steps, too.
     pub fn due_rectangle(
         &mut self,
-        job: u8,
+        origin: Origin,
         transaction: usize,
         procedure: Procedure,
         tiles: &[Tile],
-    ) -> ((u8, u8), Vec<Step>) {
+    ) -> (Told, Vec<Step>) {
         let now = self.tiles();
         let steps: Vec<Step> = tiles
             .iter()
             .map(|tile| step_on(transaction, procedure, *tile, &now))
             .collect();
-        let holder = steps.iter().find_map(|step| self.holder(job, *step));
+        let holder = steps.iter().find_map(|step| self.holder(origin.job, *step));
         let with_list = [self.steps(), steps.clone()].concat();
         self.compare_with_strictness(holder, &with_list);
         if let Some(holder) = holder {
-            return ((6, holder), steps);
+            return (held_by(holder), steps);
         }
-        let number = self.due_number(job, &steps);
+        let number = self.due_number(origin, &steps);
         if self.rule == Rule::EachAlone {
             let places = self.bench.tables.tiles.len();
             let fits = most_tiles(self.rule, &self.start, &with_list) <= places;
             assert_eq!(number == 7, !fits);
         }
-        ((number, 0), steps)
+        (refused(number), steps)
     }
 
     /// The number that a list of operations gets that are not held.
-    fn due_number(&mut self, job: u8, steps: &[Step]) -> u8 {
+    fn due_number(&mut self, origin: Origin, steps: &[Step]) -> u8 {
         let before = self.done.len();
         let mut number = 0;
         for step in steps {
             // One that only lacks an entry is taken all the same: a later one may lack a place.
-            number = match self.due_reply(job, *step).0 {
+            number = match self.due_reply(origin.job, *step).0 {
                 0 => number,
                 refused => refused,
             };
             if number == 7 {
                 break;
             }
-            self.done.push(Done { job, step: *step });
+            let step = *step;
+            self.done.push(Done { origin, step });
         }
         self.done.truncate(before);
         number
     }
 
-    /// The job of the first unfinished operation that stands in the way.
-    fn holder(&self, job: u8, new: Step) -> Option<u8> {
+    /// Whose unfinished operation is the first that stands in the way.
+    fn holder(&self, job: u8, new: Step) -> Option<Origin> {
         let holds = |done: &&Done| match self.rule {
             Rule::EachAlone => !commutes(new, done.step.recovery),
             Rule::JobAsOne => {
                 let on_tile = done.step.tile == new.tile;
-                done.job != job && on_tile && done.step.recovery != Recovery::Skip
+                done.origin.job != job && on_tile && done.step.recovery != Recovery::Skip
             }
         };
-        self.unfinished().find(holds).map(|done| done.job)
+        self.unfinished().find(holds).map(|done| done.origin)
     }
 
     /// By rule 1 held is exactly what strictness forbids; by rule 2 it may be more.
-    fn compare_with_strictness(&mut self, holder: Option<u8>, with_new: &[Step]) {
+    fn compare_with_strictness(&mut self, holder: Option<Origin>, with_new: &[Step]) {
         let stays_strict = strict(self.rule, &self.start, with_new);
         assert!(stays_strict || holder.is_some());
         if stays_strict && holder.is_some() {

@@ -3,8 +3,9 @@
 
 use super::{tile, Bench, DONE};
 use second::address::Address;
-use second::journal::Record;
-use second::operation::{Procedure, PROCEDURES};
+use second::journal::{Record, Recorded};
+use second::journals::some_sheet;
+use second::operation::{Origin, Procedure, PROCEDURES};
 use second::random::Random;
 use second::rectangle::{Rectangle, SWEEPS};
 use second::rule::Rule;
@@ -26,11 +27,12 @@ pub fn most_done(rule: Rule) -> (usize, usize) {
 
 /// An operation that is not struck out.
 pub struct Done {
-    pub job: u8,
+    pub origin: Origin,
     pub step: Step,
 }
 
 /// A record of the journal, by where it ends, with the operation that it is.
+#[derive(Clone)]
 pub struct Logged {
     pub end: usize,
     pub transaction: usize,
@@ -89,7 +91,7 @@ impl Trial {
         let operations = random.pick(&[2, 4, 20, 20, 20]);
         Trial {
             rule,
-            bench: Bench::started_by(rule, (places, operations, 1000), &present),
+            bench: Bench::started_by(rule, (places, operations, 2000), &present),
             random,
             start,
             addresses,
@@ -181,7 +183,7 @@ impl Trial {
 
     fn strike_out(&mut self, job: u8, transaction: usize) {
         let mut oldest_first = self.tiles();
-        for done in self.unfinished().filter(|done| done.job == job) {
+        for done in self.unfinished().filter(|done| done.origin.job == job) {
             done.step.recovery.run(&mut oldest_first);
         }
         assert_eq!(self.bench.abort(job), DONE);
@@ -192,16 +194,22 @@ impl Trial {
         self.tally.oldest_first_differs += usize::from(oldest_first != self.tiles());
     }
 
+    fn some_origin(&mut self, job: u8) -> Origin {
+        let sheet = some_sheet(&mut self.random);
+        Origin { job, sheet }
+    }
+
     fn try_operation(&mut self, job: u8, transaction: usize) {
+        let origin = self.some_origin(job);
         let procedure = self.random.pick(&PROCEDURES);
         let address = self.random.pick(&self.addresses);
         let new = step_on(transaction, procedure, tile(address), &self.tiles());
         let due = self.due_reply(job, new);
         let before = self.bench.clone();
-        assert_eq!(self.bench.operate(job, procedure, address), due);
+        assert_eq!(self.bench.operate_for(origin, procedure, address), due);
         *self.tally.replies.entry(due.0).or_insert(0) += 1;
         if due.0 == 0 {
-            self.admit(job, procedure, &[new]);
+            self.admit(origin, procedure, &[new]);
         } else {
             assert_eq!(self.bench, before);
         }
@@ -228,33 +236,35 @@ impl Trial {
         if self.unfinished().count() + tiles.len() > most_done(self.rule).1 {
             return;
         }
-        let sweep = self.random.pick(&SWEEPS);
-        let (due, steps) = self.due_rectangle(job, transaction, sweep.procedure(), &tiles);
+        let (origin, sweep) = (self.some_origin(job), self.random.pick(&SWEEPS));
+        let (due, steps) = self.due_rectangle(origin, transaction, sweep.procedure(), &tiles);
         let before = self.bench.clone();
-        assert_eq!(self.bench.sweep(job, sweep, place), due);
+        assert_eq!(self.bench.sweep_for(origin, sweep, place), due);
         *self.tally.rectangles.entry(due.0).or_insert(0) += 1;
         if due.0 == 0 {
-            self.admit(job, sweep.procedure(), &steps);
+            self.admit(origin, sweep.procedure(), &steps);
         } else {
             assert_eq!(self.bench, before);
         }
     }
 
     /// To the history a rectangle is its operations; their records stand one behind the other.
-    fn admit(&mut self, job: u8, procedure: Procedure, steps: &[Step]) {
+    fn admit(&mut self, origin: Origin, procedure: Procedure, steps: &[Step]) {
         let end = self.bench.journal().len();
         for (step, behind) in steps.iter().zip((0..steps.len()).rev()) {
-            self.done.push(Done { job, step: *step });
+            let step = *step;
+            self.done.push(Done { origin, step });
             self.log.push(Logged {
-                end: end - 10 * behind,
+                end: end - 12 * behind,
                 transaction: step.transaction,
-                record: Record::Operation {
-                    job,
+                record: Record::Operation(Recorded {
+                    job: origin.job,
                     procedure,
                     ok: step.ok,
                     tile: step.tile,
-                },
-                step: Some(*step),
+                    sheet: Some(origin.sheet),
+                }),
+                step: Some(step),
             });
         }
     }

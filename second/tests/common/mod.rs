@@ -11,9 +11,9 @@ pub mod talk;
 pub mod turns;
 
 use second::address::Address;
-use second::operation::Procedure;
+use second::operation::{Origin, Procedure};
 use second::rectangle::{Rectangle, Sweep};
-use second::reply::{numbers, sweep_numbers, Reply, Span};
+use second::reply::{numbers, sweep_numbers, Reply, Span, SweepReply};
 use second::rule::Rule;
 use second::service;
 use second::session::{Session, Tables};
@@ -46,23 +46,51 @@ pub const TABLE: [[bool; 5]; 6] = [
     [false, true, true, true, true],
 ];
 
-pub const DONE: (u8, u8, u8) = (0, 0, 0);
-pub const OK: (u8, u8, u8) = (0, 1, 0);
-pub const FAIL: (u8, u8, u8) = (0, 0, 0);
+/// Number and answer of a reply, and the job and the sheet of the holder.
+pub type Told = (u8, u8, u8, u16);
 
-pub fn refused(number: u8) -> (u8, u8, u8) {
-    (number, 0, 0)
+pub const DONE: Told = (0, 0, 0, 0);
+pub const OK: Told = (0, 1, 0, 0);
+pub const FAIL: Told = (0, 0, 0, 0);
+
+pub fn refused(number: u8) -> Told {
+    (number, 0, 0, 0)
 }
 
-pub fn held(holder: u8) -> (u8, u8, u8) {
-    (6, 0, holder)
+/// Held by an operation that a short name made.
+pub fn held(job: u8) -> Told {
+    held_by(usual(job))
 }
 
-/// Number, answer and holder of a reply that carries no turns.
-pub fn without_turns(reply: Reply) -> (u8, u8, u8) {
-    let (number, answer, holder, turns) = numbers(reply);
+pub fn held_by(holder: Origin) -> Told {
+    (6, 0, holder.job, holder.sheet)
+}
+
+/// The short names give a sheet of its own to each job.
+pub fn usual(job: u8) -> Origin {
+    let sheet = 40_000 + u16::from(job);
+    Origin { job, sheet }
+}
+
+/// What a reply tells besides its turns.
+pub fn told(reply: Reply) -> (Told, i32) {
+    let numbers = numbers(reply);
+    let Origin { job, sheet } = numbers.holder;
+    ((numbers.number, numbers.answer, job, sheet), numbers.turns)
+}
+
+/// The same for a rectangle, which has no answer.
+pub fn told_of_sweep(reply: SweepReply) -> (Told, Span) {
+    let numbers = sweep_numbers(reply);
+    let Origin { job, sheet } = numbers.holder;
+    ((numbers.number, 0, job, sheet), numbers.turns)
+}
+
+/// What a reply tells that carries no turns.
+pub fn without_turns(reply: Reply) -> Told {
+    let (told, turns) = told(reply);
     assert_eq!(turns, 0);
-    (number, answer, holder)
+    told
 }
 
 pub fn tile(address: Address) -> Tile {
@@ -108,48 +136,55 @@ impl Bench {
         bench
     }
 
-    pub fn open(&mut self, job: u8) -> (u8, u8, u8) {
+    pub fn open(&mut self, job: u8) -> Told {
         without_turns(service::open(&mut self.session, &mut self.tables, job))
     }
 
-    pub fn operate(&mut self, job: u8, procedure: Procedure, address: Address) -> (u8, u8, u8) {
+    pub fn operate(&mut self, job: u8, procedure: Procedure, address: Address) -> Told {
+        self.operate_for(usual(job), procedure, address)
+    }
+
+    pub fn operate_for(&mut self, origin: Origin, word: Procedure, address: Address) -> Told {
         let (session, tables) = (&mut self.session, &mut self.tables);
-        let reply = service::operate(session, tables, job, procedure, address);
+        let reply = service::operate(session, tables, origin, word, address);
         if reply.is_err() {
             return without_turns(reply);
         }
-        let (number, answer, holder, turns) = numbers(reply);
+        let (told, turns) = told(reply);
         assert_eq!(turns, turns_of(address.zoom, address.column));
-        (number, answer, holder)
+        told
     }
 
-    pub fn ins(&mut self, job: u8, address: Address) -> (u8, u8, u8) {
+    pub fn ins(&mut self, job: u8, address: Address) -> Told {
         self.operate(job, Procedure::Insert, address)
     }
 
-    pub fn del(&mut self, job: u8, address: Address) -> (u8, u8, u8) {
+    pub fn del(&mut self, job: u8, address: Address) -> Told {
         self.operate(job, Procedure::Delete, address)
     }
 
-    pub fn mem(&mut self, job: u8, address: Address) -> (u8, u8, u8) {
+    pub fn mem(&mut self, job: u8, address: Address) -> Told {
         self.operate(job, Procedure::Member, address)
     }
 
-    /// The number and the holder; a rectangle has no answer.
-    pub fn sweep(&mut self, job: u8, sweep: Sweep, rectangle: Rectangle) -> (u8, u8) {
-        let (session, tables) = (&mut self.session, &mut self.tables);
-        let reply = service::sweep(session, tables, job, sweep, rectangle);
-        let (number, holder, turns) = sweep_numbers(reply);
-        let due = reply.map_or(Span::default(), |_| span_of(rectangle));
-        assert_eq!(turns, due);
-        (number, holder)
+    pub fn sweep(&mut self, job: u8, sweep: Sweep, rectangle: Rectangle) -> Told {
+        self.sweep_for(usual(job), sweep, rectangle)
     }
 
-    pub fn commit(&mut self, job: u8) -> (u8, u8, u8) {
+    pub fn sweep_for(&mut self, origin: Origin, sweep: Sweep, rectangle: Rectangle) -> Told {
+        let (session, tables) = (&mut self.session, &mut self.tables);
+        let reply = service::sweep(session, tables, origin, sweep, rectangle);
+        let (told, turns) = told_of_sweep(reply);
+        let due = reply.map_or(Span::default(), |_| span_of(rectangle));
+        assert_eq!(turns, due);
+        told
+    }
+
+    pub fn commit(&mut self, job: u8) -> Told {
         without_turns(service::commit(&mut self.session, &mut self.tables, job))
     }
 
-    pub fn abort(&mut self, job: u8) -> (u8, u8, u8) {
+    pub fn abort(&mut self, job: u8) -> Told {
         without_turns(service::abort(&mut self.session, &mut self.tables, job))
     }
 

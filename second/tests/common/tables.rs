@@ -1,8 +1,9 @@
 //! Random tables that are often sound and often almost sound, and random calls on them.
 
-use super::Bench;
+use super::{Bench, Told};
 use second::address::Address;
-use second::operation::PROCEDURES;
+use second::journals::some_sheet;
+use second::operation::{Origin, PROCEDURES};
 use second::random::Random;
 use second::rule::{Rule, RULES};
 use second::session::{Session, Tables};
@@ -63,7 +64,8 @@ fn some_entries(random: &mut Random, rule: Rule, keys: &[u32]) -> Vec<u64> {
     (0..count)
         .map(|_| {
             let (kind, job, key) = (random.pick(kinds), random.pick(jobs), random.pick(keys));
-            (kind << 40) + (job << 32) + u64::from(key)
+            let sheet = u64::from(some_sheet(random));
+            (sheet << 48) + (kind << 40) + (job << 32) + u64::from(key)
         })
         .collect()
 }
@@ -100,13 +102,16 @@ pub fn damage(random: &mut Random, bench: &mut Bench) {
     }
 }
 
-pub fn any_call(random: &mut Random, bench: &mut Bench) -> (u8, u8, u8) {
+pub fn any_call(random: &mut Random, bench: &mut Bench) -> Told {
     let job = random.pick(&[0, 1, 2, 0, 1, 2, 63, 64, 255]);
     let address = some_address(random);
     match random.below(6) {
         0 => bench.open(job),
         1 => bench.commit(job),
         2 => bench.abort(job),
-        _ => bench.operate(job, random.pick(&PROCEDURES), address),
+        _ => {
+            let sheet = some_sheet(random);
+            bench.operate_for(Origin { job, sheet }, random.pick(&PROCEDURES), address)
+        }
     }
 }
