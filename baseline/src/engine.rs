@@ -3,8 +3,8 @@
 
 use crate::chains;
 use crate::entry::{
-    changes_its_tile, commutes, deletes, entry, job, key, kind, kind_of, DELETED, INSERTED,
-    NOT_SEEN,
+    changes_its_tile, commutes, deletes, entry, job, key, kind, kind_of, origin, Origin, DELETED,
+    INSERTED, NOT_SEEN,
 };
 use crate::journal::Procedure;
 use crate::reply::Refusal;
@@ -37,7 +37,7 @@ pub fn admit(
     let new_kind = kind_of(procedure, search.is_ok());
     let mut on_tile = entries.iter().copied().filter(|&e| key(e) == new_key);
     if let Some(holder) = on_tile.find(|&e| holds(session.rule, own_job, new_kind, e)) {
-        return Err(Refusal::Held(job(holder)));
+        return Err(Refusal::Held(origin(holder)));
     }
     if new_kind == INSERTED
         && lacks_places(session, tiles.len(), entries, 1)
@@ -85,11 +85,11 @@ pub fn perform(
     session: &mut Session,
     tiles: &mut [u32],
     operations: &mut [u64],
-    job: u8,
+    origin: Origin,
     admitted: Admitted,
 ) {
     let Admitted { kind, key, place } = admitted;
-    operations[session.operations] = entry(kind, job, key);
+    operations[session.operations] = entry(kind, origin, key);
     session.operations += 1;
     match kind {
         INSERTED => insert_at(session, tiles, place, key),

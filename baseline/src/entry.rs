@@ -1,4 +1,4 @@
-//! Entries of the operations table: kind × 2^40 + job × 2^32 + key.
+//! Entries of the operations table: sheet × 2^48 + kind × 2^40 + job × 2^32 + key.
 
 use crate::journal::Procedure;
 
@@ -9,12 +9,26 @@ pub const ALREADY_GONE: u64 = 4;
 pub const SEEN: u64 = 5;
 pub const NOT_SEEN: u64 = 6;
 
-pub fn entry(kind: u64, job: u8, key: u32) -> u64 {
-    kind << 40 | u64::from(job) << 32 | u64::from(key)
+/// Who asked for an operation: a job, for a sheet.
+#[derive(Clone, Copy, Debug, PartialEq, Eq)]
+pub struct Origin {
+    pub job: u8,
+    pub sheet: u16,
+}
+
+pub fn entry(kind: u64, Origin { job, sheet }: Origin, key: u32) -> u64 {
+    u64::from(sheet) << 48 | kind << 40 | u64::from(job) << 32 | u64::from(key)
 }
 
 pub fn kind(entry: u64) -> u64 {
-    entry >> 40
+    entry >> 40 & 0xFF
+}
+
+pub fn origin(entry: u64) -> Origin {
+    Origin {
+        job: job(entry),
+        sheet: (entry >> 48) as u16,
+    }
 }
 
 pub fn job(entry: u64) -> u8 {

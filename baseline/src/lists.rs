@@ -2,7 +2,9 @@
 //! so that each is judged on the tables as they stand.
 
 use crate::engine::{holds, lacks_places};
-use crate::entry::{changes_its_tile, entry, job, key, kind, kind_of, DELETED, INSERTED};
+use crate::entry::{
+    changes_its_tile, entry, key, kind, kind_of, origin, Origin, DELETED, INSERTED,
+};
 use crate::journal::Procedure;
 use crate::rectangle::Listed;
 use crate::reply::Refusal;
@@ -11,7 +13,7 @@ use crate::session::Session;
 /// What a tile of the list meets.
 struct Met {
     kind: u64,
-    holder: Option<u8>,
+    holder: Option<Origin>,
     was_deleted: bool,
 }
 
@@ -27,12 +29,12 @@ pub fn admit_all(
     session: &Session,
     tiles: &[u32],
     operations: &[u64],
-    own_job: u8,
+    origin: Origin,
     procedure: Procedure,
     list: &Listed,
 ) -> Result<Vec<u64>, Refusal> {
     let (entries, unused) = operations.split_at(session.operations);
-    let met = met_by(session, tiles, entries, own_job, procedure, list);
+    let met = met_by(session, tiles, entries, origin.job, procedure, list);
     if let Some(holder) = met.iter().find_map(|tile| tile.holder) {
         return Err(Refusal::Held(holder));
     }
@@ -44,7 +46,7 @@ pub fn admit_all(
         return Err(Refusal::NoOperationRoom);
     }
     let tiles = met.iter().zip(&list.keys);
-    let admitted = tiles.map(|(tile, &key)| entry(tile.kind, own_job, key));
+    let admitted = tiles.map(|(tile, &key)| entry(tile.kind, origin, key));
     Ok(admitted.collect())
 }
 
@@ -68,7 +70,7 @@ fn met_by(
         if let Some(place) = list.place_of(key(e)) {
             let tile = &mut met[place];
             if tile.holder.is_none() && holds(session.rule, own_job, tile.kind, e) {
-                tile.holder = Some(job(e));
+                tile.holder = Some(origin(e));
             }
             tile.was_deleted |= kind(e) == DELETED;
         }

@@ -1,5 +1,7 @@
 //! Replies of the calls.
 
+use crate::entry::Origin;
+
 #[derive(Clone, Copy, Debug, PartialEq, Eq)]
 pub enum Refusal {
     NotSound,
@@ -7,7 +9,7 @@ pub enum Refusal {
     NotOpen,
     AlreadyOpen,
     OutOfRange,
-    Held(u8),
+    Held(Origin),
     NoTileRoom,
     NoOperationRoom,
     NoJournalRoom,
@@ -27,36 +29,34 @@ pub struct Done {
 /// What is told; or why the call was refused.
 pub type Reply = Result<Done, Refusal>;
 
-/// The number, the answer, the holder and the turns of a reply, each 0 where there is none.
-pub fn numbers(reply: Reply) -> [i64; 5] {
+/// The number, the answer, the holder's job and sheet, and the turns of a reply, each 0 where there
+/// is none.
+pub fn numbers(reply: Reply) -> [i64; 6] {
     match reply {
-        Ok(done) => [
-            0,
-            done.answer.into(),
-            0,
-            done.turns.into(),
-            done.last.into(),
-        ],
-        Err(refusal) => {
-            let [number, holder] = refusal_numbers(refusal);
-            [number, 0, holder, 0, 0]
+        Ok(done) => {
+            let [turns, last] = [done.turns, done.last].map(i64::from);
+            [0, done.answer.into(), 0, 0, turns, last]
         }
+        Err(Refusal::Held(holder)) => {
+            let number = refusal_number(Refusal::Held(holder));
+            [number, 0, holder.job.into(), holder.sheet.into(), 0, 0]
+        }
+        Err(refusal) => [refusal_number(refusal), 0, 0, 0, 0, 0],
     }
 }
 
-/// The number of a refusal, and the job that holds.
-fn refusal_numbers(refusal: Refusal) -> [i64; 2] {
+fn refusal_number(refusal: Refusal) -> i64 {
     match refusal {
-        Refusal::NotSound => [1, 0],
-        Refusal::NoSuchJob => [2, 0],
-        Refusal::NotOpen => [3, 0],
-        Refusal::AlreadyOpen => [4, 0],
-        Refusal::OutOfRange => [5, 0],
-        Refusal::Held(job) => [6, job.into()],
-        Refusal::NoTileRoom => [7, 0],
-        Refusal::NoOperationRoom => [8, 0],
-        Refusal::NoJournalRoom => [9, 0],
-        Refusal::Misshapen => [13, 0],
-        Refusal::NoEdition => [14, 0],
+        Refusal::NotSound => 1,
+        Refusal::NoSuchJob => 2,
+        Refusal::NotOpen => 3,
+        Refusal::AlreadyOpen => 4,
+        Refusal::OutOfRange => 5,
+        Refusal::Held(_) => 6,
+        Refusal::NoTileRoom => 7,
+        Refusal::NoOperationRoom => 8,
+        Refusal::NoJournalRoom => 9,
+        Refusal::Misshapen => 13,
+        Refusal::NoEdition => 14,
     }
 }

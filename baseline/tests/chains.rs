@@ -3,7 +3,7 @@
 mod common;
 
 use baseline::chains::reserved_places;
-use baseline::entry::{entry, job, key, kind};
+use baseline::entry::{entry, job, key, kind, origin};
 use baseline::rule::Rule;
 use baseline::soundness::Check;
 use baseline::workload::packs::{employ_idle_job, Sort, IDLE_JOB};
@@ -18,8 +18,8 @@ fn is_sound_with(places: usize, is_there: bool, chain: Chain) -> bool {
     let mut case = Case::by(Rule::Together, places, present);
     for (at, &(kind, job)) in chain.iter().enumerate() {
         // a finding on another tile between each two
-        case.world.operations[2 * at] = entry(kind, job, A.key().unwrap());
-        case.world.operations[2 * at + 1] = entry(6, 2, B.key().unwrap());
+        case.world.operations[2 * at] = entry(kind, of_job(job), A.key().unwrap());
+        case.world.operations[2 * at + 1] = entry(6, of_job(2), B.key().unwrap());
     }
     case.world.session.operations = 2 * chain.len();
     is_sound(&mut case.world)
@@ -63,7 +63,7 @@ fn each_requirement() {
 fn an_absent_tile_with_a_delete_is_counted_once() {
     for (present, places, expected) in [(&[][..], 1, true), (&[B][..], 1, false), (&[B], 2, true)] {
         let mut case = Case::by(Rule::Together, places, present);
-        let chain = [3, 1, 3].map(|kind| entry(kind, 1, A.key().unwrap()));
+        let chain = [3, 1, 3].map(|kind| entry(kind, of_job(1), A.key().unwrap()));
         case.world.operations[..3].copy_from_slice(&chain);
         case.world.session.operations = 3;
         assert_eq!(is_sound(&mut case.world), expected, "{present:?} {places}");
@@ -86,8 +86,8 @@ fn a_broken_link_is_found_wherever_it_stands() {
         for at in [0, 1, 511, 512, 1_022, 1_023] {
             let pack = sort.pack(Rule::Together, 4);
             let e = pack.operations[at];
-            let other_job = entry(kind(e), 1 + job(e) % 62, key(e));
-            let other_kind = entry(4 - kind(e), job(e), key(e));
+            let other_job = entry(kind(e), of_job(1 + job(e) % 62), key(e));
+            let other_kind = entry(4 - kind(e), origin(e), key(e));
             for wrong in [other_job, other_kind] {
                 let mut world = pack.clone();
                 world.operations[at] = wrong;

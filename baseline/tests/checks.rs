@@ -52,11 +52,13 @@ fn each_rule_is_held() {
         ("tiles in order", |w| w.tiles.swap(0, 1)),
         ("a tile twice", |w| w.tiles[1] = w.tiles[0]),
         ("an unused tile place", |w| w.tiles[2] = w.tiles[1] + 1),
-        ("kind 0", |w| w.operations[1] %= 1 << 40),
+        ("kind 0", |w| w.operations[1] &= !(0xFF << 40)),
         ("kind 7", |w| w.operations[1] |= 7 << 40),
         ("a closed job", |w| w.session.marks[2] = false),
         ("job 64", |w| w.operations[1] += 62 << 32),
-        ("an entry's key", |w| w.operations[1] = entry(3, 2, 1)),
+        ("an entry's key", |w| {
+            w.operations[1] = entry(3, of_job(2), 1)
+        }),
         ("a tile that is there again", |w| w.operations[0] ^= 2 << 40),
         ("journal room", |w| w.session.journal = 65_536 - 7),
     ];
@@ -71,7 +73,7 @@ fn each_rule_is_held() {
 #[test]
 fn an_unused_operation_place_and_tile_room() {
     let mut world = sound_case().world;
-    world.operations.push(entry(2, 1, 7));
+    world.operations.push(entry(2, of_job(1), 7));
     assert!(!is_sound(&mut world));
     let mut world = sound_case().world;
     world.tiles.truncate(2);
@@ -85,7 +87,7 @@ fn no_later_entry_has_a_tile_that_was_changed() {
             let mut world = sort.pack(Rule::Alone, 9);
             let changed = world.operations[at];
             // found the tile as the entry left it, so that only the order is wrong
-            let finding = entry(kind(changed) + 1, 1, key(changed));
+            let finding = entry(kind(changed) + 1, of_job(1), key(changed));
             world.operations[later] = finding;
             assert!(!is_sound(&mut world), "{at} {later}");
             world.operations.swap(at, later);

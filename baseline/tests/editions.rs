@@ -22,7 +22,7 @@ const SOUTHERN: Address = Address {
 /// The number that is told on ample tables.
 fn number_of(change: Change, rectangle: Rectangle) -> i64 {
     let mut case = Case::ample(&[]);
-    numbers_of(case.call(Call::Rectangle(1, change, rectangle)))[0]
+    numbers_of(case.call(Call::Rectangle(of_job(1), change, rectangle)))[0]
 }
 
 #[test]
@@ -120,15 +120,15 @@ fn rows_are_turned_before_a_rectangle_is_judged_empty() {
 /// The same call, with what is counted from the south counted from the north.
 fn from_north(call: Call) -> Call {
     match call {
-        Call::Operation(job, procedure, of) if of.edition == FROM_SOUTH => {
+        Call::Operation(origin, procedure, of) if of.edition == FROM_SOUTH => {
             let edition = FROM_NORTH;
             let turned = from_south(of);
-            Call::Operation(job, procedure, Address { edition, ..turned })
+            Call::Operation(origin, procedure, Address { edition, ..turned })
         }
-        Call::Rectangle(job, change, of) if of.edition == FROM_SOUTH => {
+        Call::Rectangle(origin, change, of) if of.edition == FROM_SOUTH => {
             let edition = FROM_NORTH;
             let turned = rows_from_south(of);
-            Call::Rectangle(job, change, Rectangle { edition, ..turned })
+            Call::Rectangle(origin, change, Rectangle { edition, ..turned })
         }
         other => other,
     }

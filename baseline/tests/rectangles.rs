@@ -2,7 +2,7 @@
 
 mod common;
 
-use baseline::entry::{job, key};
+use baseline::entry::{key, kind, origin};
 use baseline::rectangle::{Change, Rectangle, MOST_LISTED};
 use baseline::reply::Refusal;
 use baseline::rule::Rule;
@@ -30,7 +30,7 @@ const fn rectangle(zoom: u8, west: i32, east: i32, top: i32, bottom: i32) -> Rec
 }
 
 fn put(case: &mut Case, job: u8, change: Change, rectangle: Rectangle) -> Answer {
-    case.call(Call::Rectangle(job, change, rectangle))
+    case.call(Call::Rectangle(of_job(job), change, rectangle))
 }
 
 fn number_on_ample(rectangle: Rectangle) -> i64 {
@@ -79,7 +79,7 @@ fn numbers_in_order() {
         assert_eq!(told(&mut case, 2, free), [8, 0, 0]);
         case.world.operations.push(0);
         assert_eq!(told(&mut case, 2, free), [9, 0, 0]);
-        case.world.journal.extend([0; 20]);
+        case.world.journal.extend([0; 24]);
         assert_eq!(told(&mut case, 2, free), [0, 0, 0]);
     }
 }
@@ -161,11 +161,12 @@ fn the_list_goes_from_west_to_east_and_down_each_column() {
     let entries = &case.world.operations[..case.world.session.operations];
     assert!(entries
         .iter()
-        .map(|&e| (job(e), key(e)))
-        .eq(keys.map(|key| (2, key))));
-    let kinds: Vec<u64> = entries.iter().map(|&e| e >> 40).collect();
+        .map(|&e| (origin(e), key(e)))
+        .eq(keys.map(|key| (of_job(2), key))));
+    let kinds: Vec<u64> = entries.iter().map(|&e| kind(e)).collect();
     assert_eq!(kinds, [1, 1, 2, 1]);
-    let records = keys.map(|key| [&[2, 0, 7, 2, 1, 1][..], &key.to_be_bytes()].concat());
+    let records =
+        keys.map(|key| [&[6, 0, 9, 2, 1, 1][..], &key.to_be_bytes(), &[0xFF, 2]].concat());
     let (used, behind) = case.world.journal.split_at(case.world.session.journal);
     assert_eq!(used[before..], records.concat());
     assert!(behind.iter().all(|&byte| byte == 0xEE));

@@ -26,7 +26,7 @@ fn numbers_of_an_operation_in_order() {
     case.world.journal.truncate(case.world.session.journal + 8);
     case.world.tiles[0] = 7;
     let told = |case: &mut Case, job, address| {
-        numbers_of(case.call(Call::Operation(job, Procedure::Insert, address)))
+        numbers_of(case.call(Call::Operation(of_job(job), Procedure::Insert, address)))
     };
     assert_eq!(told(&mut case, 64, NOWHERE), [1, 0, 0]);
     case.world.tiles[0] = 0;
@@ -44,7 +44,7 @@ fn numbers_of_an_operation_in_order() {
     assert_eq!(told(&mut case, 2, B), [8, 0, 0]);
     case.world.operations.push(0);
     assert_eq!(told(&mut case, 2, B), [9, 0, 0]);
-    case.world.journal.extend([0; 10]);
+    case.world.journal.extend([0; 12]);
     assert_eq!(told(&mut case, 2, B), [0, 1, 0]);
 }
 
@@ -71,7 +71,7 @@ fn numbers_of_the_other_calls_in_order() {
 
 #[test]
 fn journal_room_of_an_operation_is_exact() {
-    for (free, expected) in [(17, Err(Refusal::NoJournalRoom)), (18, OK)] {
+    for (free, expected) in [(19, Err(Refusal::NoJournalRoom)), (20, OK)] {
         let mut case = Case::ample(&[]);
         let used = case.world.session.journal;
         case.world.journal.truncate(used + free);
@@ -102,10 +102,10 @@ fn records_are_written_as_the_paper_says() {
     assert_eq!(case.abort(4), DONE);
     let written = [
         &[1, 0, 1, 3][..],
-        &[2, 0, 7, 3, 1, 1, 0x40, 0x03, 0xC0, 0x05],
+        &[6, 0, 9, 3, 1, 1, 0x40, 0x03, 0xC0, 0x05, 0xFF, 0x03],
         &[3, 0, 1, 3],
         &[1, 0, 1, 4],
-        &[2, 0, 7, 4, 3, 0, 0x40, 0x00, 0x00, 0x00],
+        &[6, 0, 9, 4, 3, 0, 0x40, 0x00, 0x00, 0x00, 0xFF, 0x04],
         &[4, 0, 1, 4],
     ];
     assert_eq!(case.world.written(), written.concat());
@@ -118,7 +118,12 @@ fn entries_are_written_as_the_paper_says() {
     let mut case = Case::ample(&[A]);
     assert_eq!(case.delete(2, A), OK);
     assert_eq!(case.member(1, B), FAIL);
-    let entry = |kind: u64, job: u64, key: u64| (kind << 40) + (job << 32) + key;
-    let expected = [entry(3, 2, 1_073_987_589), entry(6, 1, 4_026_531_839)];
+    let entry = |sheet: u64, kind: u64, job: u64, key: u64| {
+        (sheet << 48) + (kind << 40) + (job << 32) + key
+    };
+    let expected = [
+        entry(0xFF02, 3, 2, 1_073_987_589),
+        entry(0xFF01, 6, 1, 4_026_531_839),
+    ];
     assert_eq!(case.world.operations[..2], expected);
 }

@@ -24,7 +24,7 @@ fn done_in_histories(rule: Rule) -> Vec<Told> {
         let mut world = small_world(&mut random, &keys);
         let mut call = Call::Start(world.session.tiles, rule);
         for _ in 0..160 {
-            let [number, _, _, turns, last] = numbers(world.call(Check::Filter, call));
+            let [number, _, _, _, turns, last] = numbers(world.call(Check::Filter, call));
             match number {
                 0 => done.push((call, [turns, last])),
                 _ => assert_eq!([turns, last], [0, 0], "{call:?}"),

@@ -49,7 +49,7 @@ fn row_to(east: i32, of: Address) -> Rectangle {
     }
 }
 
-fn told(case: &mut Case, call: Call) -> [i64; 5] {
+fn told(case: &mut Case, call: Call) -> [i64; 6] {
     numbers(case.reply(call))
 }
 
@@ -71,8 +71,8 @@ fn an_operation_tells_its_turns() {
         for rule in Rule::ALL {
             for (procedure, answer) in PROCEDURES.into_iter().zip([1, 1, 0]) {
                 let mut case = Case::by(rule, 4, &[]);
-                let call = Call::Operation(1, procedure, Address { column, ..A });
-                assert_eq!(told(&mut case, call), [0, answer, 0, turns, 0]);
+                let call = Call::Operation(of_job(1), procedure, Address { column, ..A });
+                assert_eq!(told(&mut case, call), [0, answer, 0, 0, turns, 0]);
             }
         }
     }
@@ -85,8 +85,8 @@ fn an_operation_on_every_level() {
         for column in columns_of(zoom) {
             let address = Address { zoom, column, ..A };
             let (turns, _) = going_round(zoom, column);
-            let call = Call::Operation(1, Procedure::Member, address);
-            assert_eq!(told(&mut case, call), [0, 0, 0, turns, 0], "{address:?}");
+            let call = Call::Operation(of_job(1), Procedure::Member, address);
+            assert_eq!(told(&mut case, call), [0, 0, 0, 0, turns, 0], "{address:?}");
         }
     }
 }
@@ -108,8 +108,8 @@ fn a_rectangle_tells_the_turns_of_west_and_of_east() {
             for change in Change::ALL {
                 let mut case = Case::by(rule, 16, &[]);
                 let rectangle = row_to(east, Address { column: west, ..A });
-                let call = Call::Rectangle(1, change, rectangle);
-                assert_eq!(told(&mut case, call), [0, 0, 0, turns, last], "{west}");
+                let call = Call::Rectangle(of_job(1), change, rectangle);
+                assert_eq!(told(&mut case, call), [0, 0, 0, 0, turns, last], "{west}");
             }
         }
     }
@@ -122,10 +122,10 @@ fn a_rectangle_on_every_level() {
         for column in columns_of(zoom) {
             let east = column.saturating_add(1);
             let rectangle = row_to(east, Address { zoom, column, ..A });
-            let call = Call::Rectangle(1, Change::Delete, rectangle);
+            let call = Call::Rectangle(of_job(1), Change::Delete, rectangle);
             let (turns, _) = going_round(zoom, column);
             let (last, _) = going_round(zoom, east);
-            let expected = [0, 0, 0, turns, last];
+            let expected = [0, 0, 0, 0, turns, last];
             assert_eq!(told(&mut case, call), expected, "{rectangle:?}");
         }
     }
@@ -135,16 +135,16 @@ fn a_rectangle_on_every_level() {
 const HELD: Address = Address { column: -17, ..A };
 const FREE: Address = Address { row: 0, ..HELD };
 
-const REFUSED: [[i64; 5]; 9] = [
-    [1, 0, 0, 0, 0],
-    [2, 0, 0, 0, 0],
-    [3, 0, 0, 0, 0],
-    [14, 0, 0, 0, 0],
-    [5, 0, 0, 0, 0],
-    [6, 0, 1, 0, 0],
-    [7, 0, 0, 0, 0],
-    [8, 0, 0, 0, 0],
-    [9, 0, 0, 0, 0],
+const REFUSED: [[i64; 6]; 9] = [
+    [1, 0, 0, 0, 0, 0],
+    [2, 0, 0, 0, 0, 0],
+    [3, 0, 0, 0, 0, 0],
+    [14, 0, 0, 0, 0, 0],
+    [5, 0, 0, 0, 0, 0],
+    [6, 0, 1, 0xFF01, 0, 0],
+    [7, 0, 0, 0, 0, 0],
+    [8, 0, 0, 0, 0, 0],
+    [9, 0, 0, 0, 0, 0],
 ];
 
 /// A change of the world, and a call after it by a job on an address.
@@ -152,7 +152,7 @@ type Step = (fn(&mut World), u8, Address);
 
 /// What the calls are told where each step mends what was refused: the refusals above, and in the
 /// end what is told when it is done.
-fn told_in_order(asked: fn(u8, Address) -> Call) -> [[i64; 5]; 10] {
+fn told_in_order(asked: fn(u8, Address) -> Call) -> [[i64; 6]; 10] {
     let mut case = Case::with_places(1, &[A]);
     assert_eq!(case.delete(1, A), OK);
     case.world.operations.truncate(1);
@@ -167,7 +167,7 @@ fn told_in_order(asked: fn(u8, Address) -> Call) -> [[i64; 5]; 10] {
         (|_| {}, 2, FREE),
         (|world| world.tiles.extend([0; 2]), 2, FREE),
         (|world| world.operations.extend([0; 2]), 2, FREE),
-        (|world| world.journal.extend([0; 20]), 2, FREE),
+        (|world| world.journal.extend([0; 24]), 2, FREE),
     ];
     steps.map(|(mend, job, address)| {
         mend(&mut case.world);
@@ -177,20 +177,21 @@ fn told_in_order(asked: fn(u8, Address) -> Call) -> [[i64; 5]; 10] {
 
 #[test]
 fn a_refused_operation_tells_none() {
-    let told = told_in_order(|job, address| Call::Operation(job, Procedure::Insert, address));
+    let told =
+        told_in_order(|job, address| Call::Operation(of_job(job), Procedure::Insert, address));
     assert_eq!(told[..9], REFUSED);
-    assert_eq!(told[9], [0, 1, 0, -2, 0]);
+    assert_eq!(told[9], [0, 1, 0, 0, -2, 0]);
 }
 
 #[test]
 fn a_refused_rectangle_tells_none() {
-    let insert = |job, address| Call::Rectangle(job, Change::Insert, row_to(-16, address));
+    let insert = |job, address| Call::Rectangle(of_job(job), Change::Insert, row_to(-16, address));
     let in_order = told_in_order(insert);
     assert_eq!(in_order[..9], REFUSED);
-    assert_eq!(in_order[9], [0, 0, 0, -2, -1]);
+    assert_eq!(in_order[9], [0, 0, 0, 0, -2, -1]);
     for east in [-18, -1, LAST] {
-        let misshapen = Call::Rectangle(1, Change::Insert, row_to(east, FREE));
-        assert_eq!(told(&mut Case::ample(&[]), misshapen), [13, 0, 0, 0, 0]);
+        let misshapen = Call::Rectangle(of_job(1), Change::Insert, row_to(east, FREE));
+        assert_eq!(told(&mut Case::ample(&[]), misshapen), [13, 0, 0, 0, 0, 0]);
     }
 }
 
@@ -209,7 +210,7 @@ fn the_other_calls_tell_none() {
             (Call::Start(2, rule), 0),
             (Call::Start(1, rule), 1),
         ] {
-            assert_eq!(told(&mut case, call), [number, 0, 0, 0, 0], "{call:?}");
+            assert_eq!(told(&mut case, call), [number, 0, 0, 0, 0, 0], "{call:?}");
         }
     }
 }

@@ -2,6 +2,7 @@
 
 mod common;
 
+use baseline::entry::Origin;
 use baseline::rectangle::{Change, Rectangle};
 use baseline::reply::{numbers, Done, Refusal, Reply};
 use baseline::rule::Rule;
@@ -17,16 +18,16 @@ use common::*;
 /// A rectangle for a job.
 #[derive(Clone, Copy)]
 struct Asked {
-    job: u8,
+    origin: Origin,
     change: Change,
     rectangle: Rectangle,
 }
 
 impl Asked {
     fn operations(self) -> impl Iterator<Item = Call> {
-        let Asked { job, change, .. } = self;
+        let Asked { origin, change, .. } = self;
         let addresses = self.rectangle.addresses();
-        addresses.map(move |address| Call::Operation(job, change.procedure(), address))
+        addresses.map(move |address| Call::Operation(origin, change.procedure(), address))
     }
 
     /// The first refusal of its operations, one after another, which the world is left with; or
@@ -84,7 +85,7 @@ fn widened(world: &World) -> World {
 /// Makes the call, and counts its number.
 fn ask(case: &mut Case, asked: Asked, told: &mut [usize; NUMBERS]) {
     let before = case.world.clone();
-    let reply = case.reply(Call::Rectangle(asked.job, asked.change, asked.rectangle));
+    let reply = case.reply(Call::Rectangle(asked.origin, asked.change, asked.rectangle));
     let number = numbers(reply)[0];
     told[number as usize] += 1;
     if [2, 3, 14, 5, 13].contains(&number) {
@@ -121,9 +122,9 @@ fn history(random: &mut Random, rule: Rule, told: &mut [usize; NUMBERS]) {
     assert_eq!(case.call(start), DONE);
     for _ in 0..80 {
         match any_call(random, &keys, 4) {
-            Call::Rectangle(job, change, rectangle) => {
+            Call::Rectangle(origin, change, rectangle) => {
                 let asked = Asked {
-                    job,
+                    origin,
                     change,
                     rectangle,
                 };
@@ -142,9 +143,9 @@ fn on_full_tables() {
         for seed in 0..7 {
             for change in Change::ALL {
                 let (world, rectangle) = roomy_pack(rule, change, seed);
-                let job = IDLE_JOB;
+                let origin = of_job(IDLE_JOB);
                 let asked = Asked {
-                    job,
+                    origin,
                     change,
                     rectangle,
                 };

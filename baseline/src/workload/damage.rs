@@ -2,7 +2,7 @@
 
 use super::random::Random;
 use super::world::World;
-use crate::entry::{entry, job, key, kind};
+use crate::entry::{entry, job, key, kind, origin, Origin};
 use crate::rule::Rule;
 use crate::session::{JOBS, MOST_JOURNAL, MOST_OPERATIONS, MOST_TILES};
 
@@ -34,7 +34,7 @@ fn damage_entries(random: &mut Random, operations: &mut [u64], used: usize) {
     }
     let (one, other) = (random.below(used), random.below(used));
     match random.below(9) {
-        0 => operations[any] ^= 1 << random.below(48),
+        0 => operations[any] ^= 1 << random.below(64),
         1 => operations.swap(one, other),
         // the neighbour, and then any other, gets the same tile
         2 => operations[one] = with_key_of(operations[one], operations[(one + 1) % used]),
@@ -50,11 +50,15 @@ fn damage_entries(random: &mut Random, operations: &mut [u64], used: usize) {
 }
 
 fn with_key_of(one: u64, other: u64) -> u64 {
-    entry(kind(one), job(one), key(other))
+    entry(kind(one), origin(one), key(other))
 }
 
 fn with_job_of(one: u64, other: u64) -> u64 {
-    entry(kind(one), job(other), key(one))
+    let origin = Origin {
+        job: job(other),
+        ..origin(one)
+    };
+    entry(kind(one), origin, key(one))
 }
 
 fn damage_session(random: &mut Random, world: &mut World) {

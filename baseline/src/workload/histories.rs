@@ -34,12 +34,17 @@ pub fn any_call(random: &mut Random, keys: &[u32], jobs: usize) -> Call {
         0 => random.below(256),
         _ => random.below(jobs),
     } as u8;
+    let origin = random.origin(job);
     match random.below(16) {
         0..=2 => Call::Open(job),
         3 => Call::Commit(job),
         4 => Call::Abort(job),
-        5..=7 => Call::Rectangle(job, random.pick(&Change::ALL), any_rectangle(random, keys)),
-        _ => Call::Operation(job, random.pick(&PROCEDURES), any_address(random, keys)),
+        5..=7 => Call::Rectangle(
+            origin,
+            random.pick(&Change::ALL),
+            any_rectangle(random, keys),
+        ),
+        _ => Call::Operation(origin, random.pick(&PROCEDURES), any_address(random, keys)),
     }
 }
 
@@ -133,7 +138,8 @@ pub fn stretch_until(
     let mut found_full = 0;
     while found_full < 2 && operations.len() < most {
         let (job, key) = job_and_tile(random, keys, world);
-        let call = Call::Operation(job, random.pick(&ASKED), address_of(random, key));
+        let origin = random.origin(job);
+        let call = Call::Operation(origin, random.pick(&ASKED), address_of(random, key));
         if world.call(Check::Filter, call) == Err(Refusal::NoOperationRoom) {
             found_full += 1;
         }

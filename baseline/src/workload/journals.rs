@@ -1,10 +1,10 @@
-//! Journals to replay: one that the calls wrote until it was full, and pieces and wrong versions.
+//! Journals to replay: one that the calls wrote until it was full, and older and wrong versions.
 
 use super::editions::address_of;
 use super::histories::job_and_tile;
 use super::random::Random;
 use super::world::{Call, World};
-use crate::journal::{Procedure, RULE_RECORD};
+use crate::journal::{read, Procedure, Reading, Record, RULE_RECORD};
 use crate::reply::Refusal;
 use crate::rule::Rule;
 use crate::soundness::Check;
@@ -61,7 +61,8 @@ pub fn write_full(
         } else if random.one_in(load.calls_of_a_job()) {
             random.pick(&[Call::Commit(job), Call::Commit(job), Call::Abort(job)])
         } else {
-            Call::Operation(job, random.pick(&ASKED), address_of(random, key))
+            let origin = random.origin(job);
+            Call::Operation(origin, random.pick(&ASKED), address_of(random, key))
         };
         if world.call(Check::Filter, call) == Err(Refusal::NoJournalRoom) {
             break;
@@ -72,6 +73,21 @@ pub fn write_full(
         start,
         end: world,
     }
+}
+
+/// The journal with some of its operations as older sessions wrote them, without their sheets.
+pub fn with_older_records(random: &mut Random, journal: &[u8]) -> Vec<u8> {
+    let mut older = vec![0; journal.len()];
+    let (mut at, mut end) = (0, 0);
+    while let Reading::Whole(mut record) = read(journal, at) {
+        at += record.size();
+        if let Record::Operation { sheet, .. } = &mut record {
+            *sheet = sheet.filter(|_| random.one_in(2));
+        }
+        end = record.write(&mut older, end);
+    }
+    older.truncate(end);
+    older
 }
 
 /// The journal with a byte changed, a piece missing or put in twice, its end cut off, or a rule

@@ -3,7 +3,7 @@
 use super::histories::stretch_until;
 use super::random::Random;
 use super::world::World;
-use crate::entry::{self, ALREADY_GONE, ALREADY_THERE, DELETED, INSERTED, NOT_SEEN, SEEN};
+use crate::entry::{self, Origin, ALREADY_GONE, ALREADY_THERE, DELETED, INSERTED, NOT_SEEN, SEEN};
 use crate::rectangle::MOST_LISTED;
 use crate::rule::Rule;
 use crate::session::{JOBS, MOST_OPERATIONS, MOST_TILES};
@@ -139,7 +139,7 @@ fn world_of(random: &mut Random, places: usize, kinds: &[u64], keys: &[u32]) -> 
             ALREADY_THERE | SEEN => present[shared],
             _ => absent[shared],
         };
-        world.operations[at] = entry::entry(kind, employed_job(at), key);
+        world.operations[at] = entry::entry(kind, random.origin(employed_job(at)), key);
     }
     world.session.operations = kinds.len();
     open_jobs(&mut world);
@@ -164,7 +164,7 @@ fn replaced(random: &mut Random, entry_at: fn(usize) -> (usize, bool)) -> World 
     for (at, place) in world.operations.iter_mut().enumerate() {
         let (tile, is_delete) = entry_at(at);
         let kind = if is_delete { DELETED } else { INSERTED };
-        *place = entry::entry(kind, employed_job(tile), keys[tile]);
+        *place = entry::entry(kind, random.origin(employed_job(tile)), keys[tile]);
     }
     world.session.operations = MOST_OPERATIONS;
     open_jobs(&mut world);
@@ -206,6 +206,10 @@ pub fn employ_idle_job(world: &mut World, count: usize) {
     let used = world.session.operations;
     for at in (0..count).map(|n| n * used / count) {
         let taken = world.operations[at];
-        world.operations[at] = entry::entry(entry::kind(taken), IDLE_JOB, entry::key(taken));
+        let origin = Origin {
+            job: IDLE_JOB,
+            ..entry::origin(taken)
+        };
+        world.operations[at] = entry::entry(entry::kind(taken), origin, entry::key(taken));
     }
 }

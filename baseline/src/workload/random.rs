@@ -1,5 +1,7 @@
 //! A small seeded generator (xorshift64*): the same seed gives the same numbers everywhere.
 
+use crate::entry::Origin;
+
 pub struct Random {
     state: u64,
 }
@@ -34,6 +36,13 @@ impl Random {
 
     pub fn pick<T: Copy>(&mut self, choices: &[T]) -> T {
         choices[self.below(choices.len())]
+    }
+
+    /// This job for any sheet, and often for the first or the last.
+    pub fn origin(&mut self, job: u8) -> Origin {
+        let any = self.below(1 << 16) as u16;
+        let sheet = self.pick(&[0, any, u16::MAX]);
+        Origin { job, sheet }
     }
 
     /// The key of a tile of a chart pack, at one of the levels 8 to 14.

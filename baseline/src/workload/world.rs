@@ -1,6 +1,7 @@
 //! A session with tables of its own, and a call as a value.
 
 use crate::calls;
+use crate::entry::Origin;
 use crate::journal::Procedure;
 use crate::rectangle::{Change, Rectangle};
 use crate::reply::Reply;
@@ -21,8 +22,8 @@ pub struct World {
 pub enum Call {
     Start(usize, Rule),
     Open(u8),
-    Operation(u8, Procedure, Address),
-    Rectangle(u8, Change, Rectangle),
+    Operation(Origin, Procedure, Address),
+    Rectangle(Origin, Change, Rectangle),
     Commit(u8),
     Abort(u8),
 }
@@ -60,11 +61,11 @@ impl World {
         match call {
             Call::Start(count, rule) => calls::start(check, session, tables, count, rule),
             Call::Open(job) => calls::open(check, session, tables, job),
-            Call::Operation(job, procedure, address) => {
-                calls::operation(check, session, tables, job, procedure, address)
+            Call::Operation(origin, procedure, address) => {
+                calls::operation(check, session, tables, origin, procedure, address)
             }
-            Call::Rectangle(job, change, rectangle) => {
-                calls::rectangle(check, session, tables, job, change, rectangle)
+            Call::Rectangle(origin, change, rectangle) => {
+                calls::rectangle(check, session, tables, origin, change, rectangle)
             }
             Call::Commit(job) => calls::commit(check, session, tables, job),
             Call::Abort(job) => calls::abort(check, session, tables, job),

@@ -1,7 +1,9 @@
 //! A world with its jobs 1 and 2 open, and calls by short names.
 #![allow(dead_code)]
 
+use baseline::entry::Origin;
 use baseline::journal::Procedure;
+use baseline::replay::{replay, Replayed, Stop};
 use baseline::reply::{numbers, Done, Refusal, Reply};
 use baseline::rule::Rule;
 use baseline::session::JOBS;
@@ -42,7 +44,7 @@ pub fn answer(reply: Reply) -> Answer {
     reply.map(|done| done.answer)
 }
 
-/// The number, the answer and the holder.
+/// The number, the answer and the holder's job.
 pub fn numbers_of(answer: Answer) -> [i64; 3] {
     let without_turns = |answer| Done {
         answer,
@@ -52,8 +54,14 @@ pub fn numbers_of(answer: Answer) -> [i64; 3] {
     [number, answer, holder]
 }
 
+/// A job as it asks here: always for the same sheet, by which its holds are known.
+pub const fn of_job(job: u8) -> Origin {
+    let sheet = 0xFF00 + job as u16;
+    Origin { job, sheet }
+}
+
 pub fn held(job: u8) -> Answer {
-    Err(Refusal::Held(job))
+    Err(Refusal::Held(of_job(job)))
 }
 
 pub struct Case {
@@ -101,15 +109,15 @@ impl Case {
     }
 
     pub fn insert(&mut self, job: u8, address: Address) -> Answer {
-        self.call(Call::Operation(job, Procedure::Insert, address))
+        self.call(Call::Operation(of_job(job), Procedure::Insert, address))
     }
 
     pub fn delete(&mut self, job: u8, address: Address) -> Answer {
-        self.call(Call::Operation(job, Procedure::Delete, address))
+        self.call(Call::Operation(of_job(job), Procedure::Delete, address))
     }
 
     pub fn member(&mut self, job: u8, address: Address) -> Answer {
-        self.call(Call::Operation(job, Procedure::Member, address))
+        self.call(Call::Operation(of_job(job), Procedure::Member, address))
     }
 
     pub fn commit(&mut self, job: u8) -> Answer {
@@ -143,4 +151,20 @@ pub fn ended(mut world: World) -> World {
         }
     }
     world
+}
+
+/// Replays with every check, which all leave the same; the operations table ends all 0.
+pub fn replayed(journal: &[u8], start: &World) -> (Replayed, Vec<u32>) {
+    let mut results = Check::ALL.iter().map(|&check| {
+        let mut world = start.clone();
+        world.operations.fill(77);
+        let (tiles, operations) = (&mut world.tiles, &mut world.operations);
+        let result = replay(check, journal, tiles, start.session.tiles, operations);
+        let left = if result.stop == Stop::NotSound { 77 } else { 0 };
+        assert!(world.operations.iter().all(|&e| e == left));
+        (result, world.tiles)
+    });
+    let first = results.next().unwrap();
+    assert!(results.all(|other| other == first));
+    first
 }

@@ -33,8 +33,8 @@ fn session_of(marks: &[bool; 64], parts: &[usize; 4]) -> Session {
     }
 }
 
-// Gives the next session back in its parts, and the reply as its number, answer, holder and turns.
-fn give(outcome: Outcome, marks: &mut [bool; 64], parts: &mut [usize; 4], reply: &mut [i32; 5]) {
+// Gives the next session back in its parts, and the reply as its number, answer, the holder's job and sheet, and turns.
+fn give(outcome: Outcome, marks: &mut [bool; 64], parts: &mut [usize; 4], reply: &mut [i32; 6]) {
     let answered = outcome.reply;
     let told = sanbirogu::numbers(answered);
     let next = outcome.session;
@@ -48,10 +48,11 @@ fn give(outcome: Outcome, marks: &mut [bool; 64], parts: &mut [usize; 4], reply:
     reply[0] = told.number as i32;
     reply[1] = told.answer as i32;
     reply[2] = told.holder as i32;
+    reply[3] = told.sheet as i32;
     let turns = told.turns;
     let last = told.last;
-    reply[3] = turns;
-    reply[4] = last;
+    reply[4] = turns;
+    reply[5] = last;
 }
 
 // The procedure of a number: 1 for ins, 2 for del, and mem for all others.
@@ -83,7 +84,7 @@ pub extern "C" fn bench_start(
     journal: &mut [u8],
     count: usize,
     rule: usize,
-    reply: &mut [i32; 5],
+    reply: &mut [i32; 6],
 ) {
     let outcome = sanbirogu::start(tiles, count, operations, journal, rule_of(rule));
     give(outcome, marks, parts, reply);
@@ -97,7 +98,7 @@ pub extern "C" fn bench_open(
     operations: &[u64],
     journal: &mut [u8],
     job: u8,
-    reply: &mut [i32; 5],
+    reply: &mut [i32; 6],
 ) {
     let session = session_of(marks, parts);
     let outcome = sanbirogu::open(session, tiles, operations, journal, job);
@@ -112,12 +113,13 @@ pub extern "C" fn bench_operation(
     operations: &mut [u64],
     journal: &mut [u8],
     job: u8,
+    sheet: u16,
     procedure: u8,
     edition: u8,
     zoom: u8,
     column: i32,
     row: i32,
-    reply: &mut [i32; 5],
+    reply: &mut [i32; 6],
 ) {
     let session = session_of(marks, parts);
     let address = Address {
@@ -132,6 +134,7 @@ pub extern "C" fn bench_operation(
         operations,
         journal,
         job,
+        sheet,
         procedure_of(procedure),
         address,
     );
@@ -154,6 +157,7 @@ pub extern "C" fn bench_rectangle(
     operations: &mut [u64],
     journal: &mut [u8],
     job: u8,
+    sheet: u16,
     change: u8,
     edition: u8,
     zoom: u8,
@@ -161,10 +165,10 @@ pub extern "C" fn bench_rectangle(
     east: i32,
     top: i32,
     bottom: i32,
-    reply: &mut [i32; 5],
+    reply: &mut [i32; 6],
 ) {
     let session = session_of(marks, parts);
-    let sheet = Rectangle {
+    let area = Rectangle {
         edition,
         zoom,
         west,
@@ -178,8 +182,9 @@ pub extern "C" fn bench_rectangle(
         operations,
         journal,
         job,
-        change_of(change),
         sheet,
+        change_of(change),
+        area,
     );
     give(outcome, marks, parts, reply);
 }
@@ -192,7 +197,7 @@ pub extern "C" fn bench_commit(
     operations: &mut [u64],
     journal: &mut [u8],
     job: u8,
-    reply: &mut [i32; 5],
+    reply: &mut [i32; 6],
 ) {
     let session = session_of(marks, parts);
     let outcome = sanbirogu::commit(session, tiles, operations, journal, job);
@@ -207,7 +212,7 @@ pub extern "C" fn bench_abort(
     operations: &mut [u64],
     journal: &mut [u8],
     job: u8,
-    reply: &mut [i32; 5],
+    reply: &mut [i32; 6],
 ) {
     let session = session_of(marks, parts);
     let outcome = sanbirogu::abort(session, tiles, operations, journal, job);

@@ -7,7 +7,7 @@ use baseline::rectangle::Change;
 use baseline::rule::Rule;
 use baseline::workload::damage::damage;
 use baseline::workload::histories::{any_call, recorded, small_world};
-use baseline::workload::journals::{spoilt, write_full, Load};
+use baseline::workload::journals::{spoilt, with_older_records, write_full, Load};
 use baseline::workload::packs::{Sort, IDLE_JOB};
 use baseline::workload::random::Random;
 use baseline::workload::rectangles::roomy_pack;
@@ -155,7 +155,8 @@ fn compare_start(census: &mut Census, random: &mut Random, mut world: World, rul
     compare_call(census, &mut world, Call::Start(count, rule))
 }
 
-/// Histories on small tables, and replays of what they wrote: whole, cut and spoilt.
+/// Histories on small tables, and replays of what they wrote, with and without older records:
+/// whole, cut and spoilt.
 fn compare_small_histories(census: &mut Census, rule: Rule) -> Agreed {
     let mut random = Random::seeded(2);
     for _ in 0..SMALL_HISTORIES {
@@ -169,7 +170,8 @@ fn compare_small_histories(census: &mut Census, rule: Rule) -> Agreed {
             compare_checks(&mut world)?;
             compare_call(census, &mut world, call)?;
         }
-        let journal = world.written();
+        let older = with_older_records(&mut random, world.written());
+        let journal = random.pick(&[world.written(), &older]);
         for bytes in 0..=journal.len() {
             compare_replay(census, &journal[..bytes], &start)?;
         }
@@ -215,7 +217,7 @@ fn compare_large_rectangles(census: &mut Census, rule: Rule) -> Agreed {
     for seed in 0..PACKS_OF_A_SORT {
         for change in Change::ALL {
             let (pack, rectangle) = roomy_pack(rule, change, seed);
-            let call = Call::Rectangle(IDLE_JOB, change, rectangle);
+            let call = Call::Rectangle(random.origin(IDLE_JOB), change, rectangle);
             for lacking in [[0, 0, 0], [1, 0, 0], [0, 1, 0], [0, 0, 1]] {
                 let mut world = pack.clone().without(lacking);
                 compare_call(census, &mut world, call)?;
@@ -240,11 +242,13 @@ fn compare_full_journals(census: &mut Census, rule: Rule) -> Agreed {
             let keys = random.distinct_keys(Vec::new(), 5_000);
             let start = World::with_tiles(keys[..tiles].to_vec());
             let written = write_full(&mut random, rule, load, start, &keys);
-            compare_replay(census, &written.journal, &written.start)?;
-            let too_long = [&written.journal[..], &[0; 65_536]].concat();
-            compare_replay(census, &too_long, &written.start)?;
             let (journal, start) = (&written.journal, &written.start);
-            compare_spoilt(census, &mut random, journal, start, SPOILT_JOURNALS)?;
+            compare_replay(census, journal, start)?;
+            let too_long = [&journal[..], &[0; 65_536]].concat();
+            compare_replay(census, &too_long, start)?;
+            let older = with_older_records(&mut random, journal);
+            compare_replay(census, &older, start)?;
+            compare_spoilt(census, &mut random, &older, start, SPOILT_JOURNALS)?;
         }
     }
     Ok(())

@@ -1,16 +1,17 @@
 //! The proved calls. A slice goes as a pointer and a length, an array as a pointer.
 
+use baseline::entry::Origin;
 use baseline::rectangle::Rectangle;
 use baseline::rule::Rule;
 use baseline::session::Session;
 use baseline::tile::Address;
 use baseline::workload::world::{Call, World};
 
-/// Number, answer, holder and turns of a reply.
-pub type Told = [i64; 5];
+/// Number, answer, the holder's job and sheet, and turns of a reply.
+pub type Told = [i64; 6];
 
 /// The same, as it comes from a proved call.
-type Numbers = [i32; 5];
+type Numbers = [i32; 6];
 
 /// Number, offset, jobs undone and tiles left of a replay.
 pub type Rebuilt = [u64; 4];
@@ -67,6 +68,7 @@ extern "C" {
         journal: *mut u8,
         journal_bytes: usize,
         job: u8,
+        sheet: u16,
         procedure: u8,
         edition: u8,
         zoom: u8,
@@ -84,6 +86,7 @@ extern "C" {
         journal: *mut u8,
         journal_bytes: usize,
         job: u8,
+        sheet: u16,
         change: u8,
         edition: u8,
         zoom: u8,
@@ -184,7 +187,7 @@ macro_rules! on_session {
 }
 
 pub fn call(world: &mut World, call: Call) -> Told {
-    let mut reply: Numbers = [0; 5];
+    let mut reply: Numbers = [0; 6];
     let mut marks = world.session.marks;
     let mut parts = parts_of(&world.session);
     let (m, p, r) = (&mut marks, &mut parts, &mut reply);
@@ -193,7 +196,7 @@ pub fn call(world: &mut World, call: Call) -> Told {
             on_session!(bench_start(m, p, world, count, rule as usize, r))
         }
         Call::Open(job) => on_session!(bench_open(m, p, world, job, r)),
-        Call::Operation(job, procedure, address) => {
+        Call::Operation(Origin { job, sheet }, procedure, address) => {
             let Address {
                 edition,
                 zoom,
@@ -202,10 +205,10 @@ pub fn call(world: &mut World, call: Call) -> Told {
             } = address;
             let asked = procedure as u8;
             on_session!(bench_operation(
-                m, p, world, job, asked, edition, zoom, column, row, r
+                m, p, world, job, sheet, asked, edition, zoom, column, row, r
             ))
         }
-        Call::Rectangle(job, change, rectangle) => {
+        Call::Rectangle(Origin { job, sheet }, change, rectangle) => {
             let Rectangle {
                 edition,
                 zoom,
@@ -216,7 +219,7 @@ pub fn call(world: &mut World, call: Call) -> Told {
             } = rectangle;
             let asked = change as u8;
             on_session!(bench_rectangle(
-                m, p, world, job, asked, edition, zoom, west, east, top, bottom, r
+                m, p, world, job, sheet, asked, edition, zoom, west, east, top, bottom, r
             ))
         }
         Call::Commit(job) => on_session!(bench_commit(m, p, world, job, r)),

@@ -168,7 +168,8 @@ pub fn rectangles() -> impl Iterator<Item = (Rule, Change)> {
 fn time_rectangle(rule: Rule, change: Change) -> [Row; 2] {
     let scene = |seed| {
         let (pack, rectangle) = roomy_pack(rule, change, seed);
-        (pack, Call::Rectangle(IDLE_JOB, change, rectangle))
+        let origin = Random::seeded(seed).origin(IDLE_JOB);
+        (pack, Call::Rectangle(origin, change, rectangle))
     };
     let scenes: Vec<(World, Call)> = (0..PACKS).map(scene).collect();
     let packs = scenes.iter().map(|(pack, _)| pack.clone()).collect();
