@@ -81,7 +81,7 @@ module _ {r : Rule} {tiles : List ℕ} {count : ℕ} {operations journal : List 
     ap (λ (x : State). x .book .table) (there .has-state) ∙ table-is _ _ r start-tiles (there .start-stands) (history cs) (there .taken),
   )
 
-  -- the used bytes, read record after record, are the calls with their answers and keys, and then the end
+  -- the used bytes, read record after record, are the calls with their answers, keys and sheets, and then the end
   pub journal-reads-back : Reads (usedJournal w) 0 (records start-tiles (history cs)) (length (usedJournal w))
       × (readAt (usedJournal w) (length (usedJournal w)) ≡ End)
   journal-reads-back = reads-back there

@@ -25,8 +25,8 @@ shortSize = 4
 abbrev pub operationSize : ℕ
 operationSize = 12
 
-abbrev pub sheetlessSize : ℕ
-sheetlessSize = 10
+abbrev pub olderSize : ℕ
+olderSize = 10
 
 -- a key is zoom, column and row; an entry is sheet, kind, job and key
 abbrev pub zoomFactor : ℕ

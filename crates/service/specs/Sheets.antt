@@ -19,9 +19,9 @@ use Rattle.service.specs.Entry.{opIn}
 use Rattle.service.specs.History.{Call, From, call, forSheet, forSheets}
 use Rattle.service.specs.Journal.{encode, front, readAt}
 use Rattle.service.specs.Laws.Deciding.{held-names, told-six}
-use Rattle.service.specs.Laws.Reading.{read-sheetless}
-use Rattle.service.specs.Laws.Sheets.{decided-no-sheet, from-alike, no-sheet, told-alike}
-use Rattle.service.specs.Limits.{lastJob, sheetlessSize}
+use Rattle.service.specs.Laws.Reading.{read-older}
+use Rattle.service.specs.Laws.Sheets.{accepted-alike, decided-zero, from-alike, no-sheet, told-alike}
+use Rattle.service.specs.Limits.{lastJob, olderSize}
 use Rattle.service.specs.Replay.{Halt, turn}
 use Rattle.service.specs.Tile.{isKey, keyOf}
 use Rattle.service.specs.Told.{bare, toldHeld}
@@ -55,19 +55,23 @@ held-names-sheet w job sheet p a k v has-key by =
 pub other-sheetless : (w : World) (c : Call) → call w c .told .number ≢ 6 → call w c .told .sheet ≡ 0
 other-sheetless w c = no-sheet w c
 
-pub start-sheetless : (r : Rule) (tiles : List ℕ) (count : ℕ) (operations journal : List ℕ) → startCall r tiles count operations journal .told .number ≢ 6
-    → startCall r tiles count operations journal .told .sheet ≡ 0
+pub start-sheetless : (r : Rule) (tiles : List ℕ) (count : ℕ) (operations journal : List ℕ) → startCall r tiles count operations journal .told .sheet ≡ 0
 unfolding startCall
-start-sheetless r tiles count operations journal = decided-no-sheet (startRefusals r tiles count operations journal) (bare 0) (λ n. refl, (λ n. refl, tt)) refl
+start-sheetless r tiles count operations journal = decided-zero (startRefusals r tiles count operations journal) (bare 0) (refl, (refl, tt)) refl
 
 -- a record of before sheets is read, and is taken just as one with sheet 0
 pub old-records-taken : (journal : List ℕ) (at job : ℕ) (p : Procedure) (found : Bool) (k : ℕ) (rest : List ℕ) → job ≤ lastJob → isKey k ≡ true →
     let o : Operation = record { job = job; procedure = p; answer = answer p found; key = k } in
     drop at journal ≡ encode (Performed o) ++ rest
-    → (readAt journal at ≡ Whole (Performed o) (at + sheetlessSize))
+    → (readAt journal at ≡ Whole (Performed o) (at + olderSize))
     × ((places slots : ℕ) (s : State) (next : ℕ) (onward : ℕ → State → Halt) → turn places slots at s (Whole (Performed o) next) onward ≡ turn places slots at s (Whole (Sheeted o 0) next) onward)
 unfolding readAt
-old-records-taken journal at job p found k rest small valid is = (ap (front at) is ∙ read-sheetless at job p found k rest small valid, λ places slots s next onward. refl)
+old-records-taken journal at job p found k rest small valid is = (ap (front at) is ∙ read-older at job p found k rest small valid, λ places slots s next onward. refl)
+
+-- what is accepted for some sheets is accepted for any
+pub sheets-accepted : {r : Rule} {tiles : List ℕ} {count : ℕ} {operations journal : List ℕ} {cs : Log Call} {w : World}
+    → From r tiles count operations journal cs w → (ds : Log Call) → forSheets 0 cs ≡ forSheets 0 ds → (v : World) × From r tiles count operations journal ds v
+sheets-accepted f ds e = accepted-alike f ds e
 
 -- histories that differ in their sheets alone leave the same tiles, and whatever is called then, for whatever sheet, is told the same but for the sheet that a hold names
 pub sheets-apart : {r : Rule} {tiles : List ℕ} {count : ℕ} {operations journal : List ℕ} {cs ds : Log Call} {w v : World}

@@ -5,6 +5,7 @@ use mathlib.Core.Logic.{_≢_}
 use mathlib.Core.Option.{Option, none, some}
 use mathlib.Core.Path.{_∙_, _≡_, ap, ap₂, refl, sym}
 use Prim.Native.Nat.{_*_, _+_, _-_, ℕ}
+use native.Mathlib.Omega.{arith}
 use lib.Dec.{eqb, ltb}
 use lib.ListN.{getD, length, length-map, take}
 use lib.Seq.{length-sets, length-take-le}
@@ -211,6 +212,15 @@ decided-no-sheet (x ∷ rs) t h z n = go (x .applies) n (decided-no-sheet rs t (
     go true n ih = h .0 n
     go false n ih = ih n
 
+-- where no refusal names a sheet, and what is told otherwise has none, nothing told has
+pub decided-zero : (rs : List Refusal) (t : Told) → All (λ x. x .says .sheet ≡ 0) rs → t .sheet ≡ 0 → decided rs t .sheet ≡ 0
+decided-zero [] t h z = z
+decided-zero (x ∷ rs) t h z = go (x .applies) (decided-zero rs t (h .1) z)
+  where
+    go : (b : Bool) → decided rs t .sheet ≡ 0 → cond b (x .says) (decided rs t) .sheet ≡ 0
+    go true ih = h .0
+    go false ih = ih
+
 all-sheetless : (w : World) (c : Call) → All Sheetless (refusalsOf w c)
 all-sheetless w (opening job) = (λ n. refl, (λ n. refl, (λ n. refl, (λ n. refl, tt))))
 all-sheetless w (committing job) = (λ n. refl, (λ n. refl, (λ n. refl, tt)))
@@ -221,3 +231,47 @@ all-sheetless w (operating job sheet p a) =
 pub no-sheet : (w : World) (c : Call) → call w c .told .number ≢ 6 → call w c .told .sheet ≡ 0
 unfolding concluded
 no-sheet w c = decided-no-sheet (refusalsOf w c) (done (answerTo (state w) (event c)) (turnsBy c)) (all-sheetless w c) refl
+
+-- WHAT IS ACCEPTED
+abbrev calledFor : Call → ℕ
+calledFor (opening job) = 0
+calledFor (committing job) = 0
+calledFor (aborting job) = 0
+calledFor (operating job sheet p a) = sheet
+
+for-last : (c : Call) (one other : ℕ) → forSheet one c ≡ forSheet one (forSheet other c)
+for-last (opening job) one other = refl
+for-last (committing job) one other = refl
+for-last (aborting job) one other = refl
+for-last (operating job sheet p a) one other = refl
+
+for-own : (c : Call) → forSheet (calledFor c) (forSheet 0 c) ≡ c
+for-own (opening job) = refl
+for-own (committing job) = refl
+for-own (aborting job) = refl
+for-own (operating job sheet p a) = refl
+
+abbrev before : Log Call → Log Call
+before empty = empty
+before (cs ▷ c) = cs
+
+abbrev latest : Call → Log Call → Call
+latest otherwise empty = otherwise
+latest otherwise (cs ▷ c) = c
+
+abbrev begins : Log Call → ℕ
+begins empty = 0
+begins (cs ▷ c) = 1
+
+pub accepted-alike : {r : Rule} {tiles : List ℕ} {count : ℕ} {operations journal : List ℕ} {cs : Log Call} {w : World}
+    → From r tiles count operations journal cs w → (ds : Log Call) → forSheets 0 cs ≡ forSheets 0 ds → (v : World) × From r tiles count operations journal ds v
+accepted-alike {r} {tiles} {count} {operations} {journal} (started e) empty eq = (startCall r tiles count operations journal .after, started e)
+accepted-alike (started e) (ds ▷ d) eq = let z : _≡_ {A = ℕ} 0 1 = ap begins eq in absurd (omega (arith, z))
+accepted-alike (called f c ok) empty eq = let z : _≡_ {A = ℕ} 1 0 = ap begins eq in absurd (omega (arith, z))
+accepted-alike (called {cs = cs} {w = w} f c ok) (ds ▷ d) eq =
+    let rest = accepted-alike f ds (ap before eq) in
+    let same : forSheet (calledFor d) c ≡ d = for-last c (calledFor d) 0 ∙ ap (λ x. forSheet (calledFor d) (latest c x)) eq ∙ for-own d in
+    let told = told-alike (from-alike f (rest .1) (ap before eq)) c (calledFor d) in
+    let number : call (rest .0) d .told .number ≡ 0 =
+    ap (λ x. call (rest .0) x .told .number) (sym same) ∙ sym (ap (λ (t : Told). t .number) told) ∙ ok in
+    (call (rest .0) d .after, called (rest .1) d number)
