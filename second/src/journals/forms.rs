@@ -55,6 +55,15 @@ pub fn cut_inside_an_operation(random: &mut Random) -> Vec<u8> {
     journal
 }
 
+/// Behind a walk stands an operation that is whole but for one or two bytes of its sheet: it is as
+/// long as an old one, or a byte longer.
+pub fn cut_at_a_sheet(random: &mut Random) -> Vec<u8> {
+    let mut journal = bytes_of(&short_walk(random));
+    let operation = [6, 0, 9, 63, 3, 1, 0x40, 0x03, 0xC0, 0x05, random.byte()];
+    journal.extend(&operation[..random.pick(&[10, 11])]);
+    journal
+}
+
 /// Some bytes of sheets are changed, which leaves every record whole.
 pub fn with_changed_sheets(random: &mut Random) -> Vec<u8> {
     let records = short_walk(random);

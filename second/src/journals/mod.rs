@@ -37,7 +37,8 @@ pub fn journal(seed: u64) -> Vec<u8> {
         23 => rule_records::left_out(random),
         24 => forms::with_changed_sheets(random),
         25 => forms::with_the_other_head(random),
-        _ => forms::cut_inside_an_operation(random),
+        26 => forms::cut_inside_an_operation(random),
+        _ => forms::cut_at_a_sheet(random),
     }
 }
 

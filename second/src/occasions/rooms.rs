@@ -4,6 +4,7 @@ use crate::console::Console;
 use crate::encoding::free_bytes;
 use crate::occasions::listed::Listed;
 use crate::occasions::named::Named;
+use crate::occasions::places::RECTANGLE;
 use crate::reply::Refusal;
 use crate::service::bytes_needed;
 
@@ -12,18 +13,21 @@ pub const NAMED: [Named<Rooms>; 6] = [
     ("into the last tile places", |rooms| {
         rooms.tiles.needed >= rooms.least && rooms.tiles.is_last() && rooms.all_fit()
     }),
-    ("one tile place short", |rooms| rooms.tiles.is_one_short()),
+    ("one tile place short", |rooms| {
+        rooms.tiles.needed >= rooms.least && rooms.tiles.is_one_short()
+    }),
     ("into the last entries", |rooms| {
         rooms.entries.needed >= rooms.least && rooms.entries.is_last() && rooms.all_fit()
     }),
     ("one entry short", |rooms| {
-        rooms.tiles.fits() && rooms.entries.is_one_short()
+        rooms.entries.needed >= rooms.least && rooms.tiles.fits() && rooms.entries.is_one_short()
     }),
     ("into the last bytes", |rooms| {
-        rooms.bytes.is_last() && rooms.all_fit()
+        rooms.entries.needed >= rooms.least && rooms.bytes.is_last() && rooms.all_fit()
     }),
     ("one byte short", |rooms| {
-        rooms.tiles.fits() && rooms.entries.fits() && rooms.bytes.is_one_short()
+        let others_fit = rooms.tiles.fits() && rooms.entries.fits();
+        rooms.entries.needed >= rooms.least && others_fit && rooms.bytes.is_one_short()
     }),
 ];
 
@@ -48,7 +52,7 @@ impl Room {
 }
 
 /// The rooms in the tile table, the operations table and the journal; and the least need that is
-/// worth a name, which for a rectangle is that of two tiles.
+/// worth a name, which for a rectangle is that of two tiles: what one needs is an operation's.
 pub struct Rooms {
     tiles: Room,
     entries: Room,
@@ -64,11 +68,11 @@ impl Rooms {
 
 pub fn known(console: &Console, listed: &Listed) -> Option<Rooms> {
     let Listed {
+        call,
         state,
         origin,
         procedure,
         tiles,
-        ..
     } = listed;
     let wanted = state.wanted(*origin, *procedure, tiles);
     if let Err(Refusal::Held(_)) = state.examine(*origin, *procedure, tiles) {
@@ -87,6 +91,6 @@ pub fn known(console: &Console, listed: &Listed) -> Option<Rooms> {
             needed: bytes_needed(state, wanted.len()),
             free: free_bytes(&console.session, &console.tables)?,
         },
-        least: tiles.len().min(2),
+        least: if *call == RECTANGLE { 2 } else { 1 },
     })
 }

@@ -1,5 +1,6 @@
 //! Tables filled up to their last place, so that the refusals for want of room are reached.
 
+use crate::rule::Rule;
 use crate::scripts::addresses::{nth_tile, Pool};
 use crate::scripts::calls;
 use crate::scripts::nowhere::{entry_number, with_sheet};
@@ -122,5 +123,13 @@ pub fn fill_journal_from_outside(writer: &mut Writer) {
     writer.tell(format!("journal {}", MOST_JOURNAL - left));
     let pool = Pool::few(&mut writer.random);
     calls::run(writer, &pool, 25);
+    writer.tell("sum");
+}
+
+/// A journal that a start by rule 2 fills.
+pub fn fill_smallest_journal(writer: &mut Writer) {
+    writer.lend(1, 1, 4);
+    writer.start_by(Rule::JobAsOne, 0);
+    writer.tell("open 1");
     writer.tell("sum");
 }

@@ -39,7 +39,7 @@ pub fn script(seed: u64, lines: usize) -> Vec<u8> {
     let mut writer = Writer::new(seed);
     match seed % SEEDS_ROUND {
         FILLING_SEED => filling::fill_largest_tables(&mut writer),
-        SWEEPING_SEED => sweeping::fill_largest_tables(&mut writer),
+        SWEEPING_SEED => write_sweeps(&mut writer),
         LONG_LINES_SEED => write_long_lines(&mut writer, lines),
         MANY_LINES_SEED => write_many_lines(&mut writer),
         _ => write_episodes(&mut writer, lines),
@@ -54,6 +54,12 @@ fn write_episodes(writer: &mut Writer, lines: usize) {
     while writer.lines() < lines {
         episodes::episode(writer);
     }
+}
+
+/// The smallest journal comes here in every round, for chance misses it in some.
+fn write_sweeps(writer: &mut Writer) {
+    sweeping::fill_largest_tables(writer);
+    filling::fill_smallest_journal(writer);
 }
 
 /// Behind each very long line the others are answered as before.
