@@ -1,6 +1,6 @@
 -- THEOREMS ON EVERY WORLD. Each speaks of the definitions that the calls promise to keep, and so of the calls
 use mathlib.Core.Bool.{Bool, cond, false, true}
-use mathlib.Core.List.{List, [], _++_, _∷_, map}
+use mathlib.Core.List.{List, _++_, _∷_, map}
 use mathlib.Core.Logic.{_↔_, _≢_, _⊎_}
 use mathlib.Core.Option.{none, some}
 use mathlib.Core.Path.{_∙_, _≡_, ap, refl, subst, sym}
@@ -19,29 +19,25 @@ use Rattle.strict.specs.Tiles.{member}
 use Rattle.strict.specs.declared.Procedure.{Procedure}
 use Rattle.strict.specs.declared.Rule.the-variants.{Alone, Together}
 use Rattle.strict.specs.declared.Rule.{Rule}
-use Rattle.service.specs.Admission.{State, answerTo, isOpen, openMarks}
+use Rattle.service.specs.Admission.{State, answerTo, isOpen}
 use Rattle.service.specs.Calls.{abortCall, carried, commitCall, concluded, fresh, openCall, operationCall, ruledWorld, startCall, startWorld}
-use Rattle.service.specs.Claims.{Because, ChangedByOther, Halts, Keeps, Missing, Named, NoRoomByJob, OfEdition, Placeless, Serves, Tells, WantsOpen, holderIn, openBytes, operationBytes, refusing}
+use Rattle.service.specs.Claims.{ChangedByOther, Keeps, Missing, Named, NoRoomByJob, OfEdition, Placeless, Serves, Tells, WantsOpen, holderIn, openBytes, operationBytes, refusing}
 use Rattle.service.specs.Entry.{opIn}
 use Rattle.service.specs.Extents.{recordSize}
 use Rattle.service.specs.History.{Call, call, event, jobOf, refusalsOf, turnsBy}
-use Rattle.service.specs.Journal.{encode, front, readAt, readCall, recordOf, ruleBytes, ruleIn}
+use Rattle.service.specs.Journal.{encode, front, readAt, readCall, recordOf, ruleBytes}
 use Rattle.service.specs.Laws.Accepting.{after-stands, carried-bytes, carried-places, carried-slots, carried-sound, first-told, left-carried, lowest-told, none-told, passed, passes, told-listed}
 use Rattle.service.specs.Laws.Deciding.{accepted-told, held-by-other, held-names, room-by-job, told-eight, told-nine, told-seven}
-use Rattle.service.specs.Laws.Halting.{number-of-replay, refused-is, refused-just, starts-left, tells-stop}
 use Rattle.service.specs.Laws.Ordering.{open-told, told-five, told-four, told-fourteen, told-one, told-three, told-two}
 use Rattle.service.specs.Laws.Outcomes.{cut-just, end-just, tells-so}
 use Rattle.service.specs.Laws.Performing.{start-is, start-told}
 use Rattle.service.specs.Laws.Reading.{read-whole}
-use Rattle.service.specs.Laws.Ruling.{runs-by}
 use Rattle.service.specs.Laws.Soundness.{is-sound, sound-is}
 use Rattle.service.specs.Laws.Starting.{start-numbers, told-of-start}
-use Rattle.service.specs.Laws.Stopping.{stopped-because, stops-there}
 use Rattle.service.specs.Laws.Storing.{open-small}
 use Rattle.service.specs.Laws.Whole.{bytes-encoded, in-front, read-rule}
 use Rattle.service.specs.Laws.Wording.{settled-worded, worded-settled}
-use Rattle.service.specs.Limits.{jobCount, lastJob, mostBytes, mostOperations, northEdition, shortSize, southEdition}
-use Rattle.service.specs.Replay.{Rebuilt, replayCall, stopped}
+use Rattle.service.specs.Limits.{jobCount, lastJob, northEdition, shortSize, southEdition}
 use Rattle.service.specs.Sound.{AllSettled, Sound, Worded, soundB}
 use Rattle.service.specs.Tile.{isEdition, keyOf}
 use Rattle.service.specs.Told.{Refusal, bare, done, refused, toldHeld}
@@ -237,57 +233,6 @@ cut-exact journal at = cut-just journal at
 -- the reader tells 10 and its offset of a malformed record, and 0 of all others
 pub reader-tells : (journal : List ℕ) (at : ℕ) → Tells at (readAt journal at) (readCall journal at)
 reader-tells journal at = tells-so at (readAt journal at)
-
--- the numbers are 0, 1, 10, 11 and 12
-pub replay-numbers : (journal tiles : List ℕ) (count : ℕ) (operations : List ℕ) →
-    let n = replayCall journal tiles count operations .number in
-    (n ≡ 1) ⊎ Halts n
-replay-numbers journal tiles count operations = number-of-replay journal tiles count operations
-
--- 1 is given just where a start by the first rule, with no journal, would be refused or the journal is too long, and changes nothing
-pub replay-refused : (journal tiles : List ℕ) (count : ℕ) (operations : List ℕ) → replayCall journal tiles count operations .number ≡ 1
-    → replayCall journal tiles count operations ≡ record { number = 1; offset = 0; undone = 0; count = count; tiles = tiles; operations = operations }
-replay-refused journal tiles count operations n = refused-is journal tiles count operations n
-
-pub replay-refused-exact : (journal tiles : List ℕ) (count : ℕ) (operations : List ℕ)
-    → (replayCall journal tiles count operations .number ≡ 1) ↔ ((soundB (startWorld Alone tiles count operations []) ≡ false) ⊎ (mostBytes < length journal))
-replay-refused-exact journal tiles count operations = refused-just journal tiles count operations
-
--- else it tells the number, the offset and the open jobs of where it stopped
-pub replay-tells : (journal tiles : List ℕ) (count : ℕ) (operations : List ℕ) →
-    let r = replayCall journal tiles count operations in
-    let h = stopped journal tiles count operations in
-    r .number ≢ 1 → (r .number ≡ h .number) × (r .offset ≡ h .offset) × (r .undone ≡ openMarks (h .reached .marks))
-replay-tells journal tiles count operations n =
-    let is = tells-stop journal tiles count operations n in
-    (ap (λ (r : Rebuilt). r .number) is, ap (λ (r : Rebuilt). r .offset) is, ap (λ (r : Rebuilt). r .undone) is)
-
--- it runs by the rule that the journal begins with, and by the first where it begins with none
-pub replay-runs-by : (journal tiles : List ℕ) (count : ℕ) (operations : List ℕ) → stopped journal tiles count operations .reached .rule ≡ ruleIn (readAt journal 0)
-replay-runs-by journal tiles count operations = runs-by journal tiles count operations
-
--- it stops at the end or a cut tail with 0, at a malformed record with 10, at one that is refused with 11, and else at an answer that differs with 12
-pub stops-because : (journal tiles : List ℕ) (count : ℕ) (operations : List ℕ) →
-    let h = stopped journal tiles count operations in
-    Because (length tiles) (length operations) (h .reached) (readAt journal (h .offset)) (h .number)
-stops-because journal tiles count operations = stopped-because journal tiles count operations
-
--- and leaves what the journal cut at its offset leaves
-pub stops-as-cut : (journal tiles : List ℕ) (count : ℕ) (operations : List ℕ) →
-    let r = replayCall journal tiles count operations in
-    r .number ≢ 1
-    → replayCall (take (r .offset) journal) tiles count operations
-    ≡ record { number = 0; offset = r .offset; undone = r .undone; count = r .count; tiles = r .tiles; operations = r .operations }
-stops-as-cut journal tiles count operations n = stops-there journal tiles count operations n
-
--- what it leaves, a start by either rule takes
-pub replay-starts : (rule : Rule) (journal tiles : List ℕ) (count : ℕ) (operations operations′ journal′ : List ℕ) →
-    let r = replayCall journal tiles count operations in
-    r .number ≢ 1 → 1 ≤ length operations′ → length operations′ ≤ mostOperations → length journal′ ≤ mostBytes → length (ruleBytes rule) ≤ length journal′
-    → startCall rule (r .tiles) (r .count) operations′ journal′ .told ≡ bare 0
-replay-starts rule journal tiles count operations operations′ journal′ n a b c d =
-    let r = replayCall journal tiles count operations in
-    ap (λ (x : Reported). x .told) (start-is rule (r .tiles) (r .count) operations′ journal′ (starts-left journal tiles count operations rule operations′ journal′ n a b c) d)
 
 -- a rule is read in front alone, as 5, 0, 1, 2
 pub rule-in-front : (journal : List ℕ) (at next : ℕ) → readAt journal at ≡ Ruled next → (at ≡ 0) × (next ≡ shortSize) × (take shortSize journal ≡ ruleBytes Together)
