@@ -20,7 +20,7 @@ use Rattle.service.specs.History.{Call, From, call, forSheet, forSheets}
 use Rattle.service.specs.Journal.{encode, front, readAt}
 use Rattle.service.specs.Laws.Deciding.{held-names, told-six}
 use Rattle.service.specs.Laws.Reading.{read-older}
-use Rattle.service.specs.Laws.Sheets.{accepted-alike, decided-zero, from-alike, no-sheet, told-alike}
+use Rattle.service.specs.Laws.Sheets.{accepted-alike, decided-so, from-alike, no-sheet, told-alike}
 use Rattle.service.specs.Limits.{lastJob, olderSize}
 use Rattle.service.specs.Replay.{Halt, turn}
 use Rattle.service.specs.Tile.{isKey, keyOf}
@@ -57,7 +57,7 @@ other-sheetless w c = no-sheet w c
 
 pub start-sheetless : (r : Rule) (tiles : List ℕ) (count : ℕ) (operations journal : List ℕ) → startCall r tiles count operations journal .told .sheet ≡ 0
 unfolding startCall
-start-sheetless r tiles count operations journal = decided-zero (startRefusals r tiles count operations journal) (bare 0) (refl, (refl, tt)) refl
+start-sheetless r tiles count operations journal = decided-so (λ x. x .sheet ≡ 0) (startRefusals r tiles count operations journal) (bare 0) (refl, (refl, tt)) refl
 
 -- a record of before sheets is read, and is taken just as one with sheet 0
 pub old-records-taken : (journal : List ℕ) (at job : ℕ) (p : Procedure) (found : Bool) (k : ℕ) (rest : List ℕ) → job ≤ lastJob → isKey k ≡ true →

@@ -204,22 +204,17 @@ pub hold-or-sheetless : (o : Option Signature) → Sheetless (refuseHeld o)
 hold-or-sheetless none n = refl
 hold-or-sheetless (some by) n = absurd (n refl)
 
-pub decided-no-sheet : (rs : List Refusal) (t : Told) → All Sheetless rs → t .sheet ≡ 0 → decided rs t .number ≢ 6 → decided rs t .sheet ≡ 0
-decided-no-sheet [] t h z n = z
-decided-no-sheet (x ∷ rs) t h z n = go (x .applies) n (decided-no-sheet rs t (h .1) z)
+-- what every refusal says, and what is told otherwise, is so of what is told
+pub decided-so : (P : Told → Type 0) (rs : List Refusal) (t : Told) → All (λ x. P (x .says)) rs → P t → P (decided rs t)
+decided-so P [] t h z = z
+decided-so P (x ∷ rs) t h z = go (x .applies) (decided-so P rs t (h .1) z)
   where
-    go : (b : Bool) → cond b (x .says) (decided rs t) .number ≢ 6 → (decided rs t .number ≢ 6 → decided rs t .sheet ≡ 0) → cond b (x .says) (decided rs t) .sheet ≡ 0
-    go true n ih = h .0 n
-    go false n ih = ih n
-
--- where no refusal names a sheet, and what is told otherwise has none, nothing told has
-pub decided-zero : (rs : List Refusal) (t : Told) → All (λ x. x .says .sheet ≡ 0) rs → t .sheet ≡ 0 → decided rs t .sheet ≡ 0
-decided-zero [] t h z = z
-decided-zero (x ∷ rs) t h z = go (x .applies) (decided-zero rs t (h .1) z)
-  where
-    go : (b : Bool) → decided rs t .sheet ≡ 0 → cond b (x .says) (decided rs t) .sheet ≡ 0
+    go : (b : Bool) → P (decided rs t) → P (cond b (x .says) (decided rs t))
     go true ih = h .0
     go false ih = ih
+
+pub decided-no-sheet : (rs : List Refusal) (t : Told) → All Sheetless rs → t .sheet ≡ 0 → decided rs t .number ≢ 6 → decided rs t .sheet ≡ 0
+decided-no-sheet rs t h z = decided-so (λ x. x .number ≢ 6 → x .sheet ≡ 0) rs t h (λ n. z)
 
 all-sheetless : (w : World) (c : Call) → All Sheetless (refusalsOf w c)
 all-sheetless w (opening job) = (λ n. refl, (λ n. refl, (λ n. refl, (λ n. refl, tt))))
