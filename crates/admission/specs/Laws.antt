@@ -15,7 +15,7 @@ use Rattle.service.specs.Entry.{opIn}
 use Rattle.service.specs.Laws.Storing.{padded-zeros}
 use Rattle.service.specs.Sound.{Tabled}
 use Rattle.service.specs.World.{World, state, usedOperations, usedTiles}
-use Rattle.strict.specs.Book.{besides, counted, heldBy, needsPlace, reserved, spokenFor}
+use Rattle.strict.specs.Book.{counted, heldBy, needsPlace, placesTaken, reserved, spokenBy}
 use Rattle.strict.specs.Commutativity.{Signature}
 use Rattle.strict.specs.Laws.Counted.{counted-few}
 use Rattle.strict.specs.Laws.Room.{room-either}
@@ -31,9 +31,9 @@ use Rattle.admission.specs.Verdicts.{byHolder, verdictOf}
 use Rattle.admission.specs.declared.Verdict.the-variants.{Admitted, Held, NoOperationRoom, NoTileRoom}
 use Rattle.admission.specs.declared.Verdict.{Verdict}
 
-besides-few : (r : Rule) (t : List ℕ) (us : List Op) → besides r t us ≤ reserved us
-besides-few Alone t us = omega arith
-besides-few Together t us = counted-few t us
+spoken-few : (r : Rule) (t : List ℕ) (us : List Op) → spokenBy r t us ≤ reserved us
+spoken-few Alone t us = omega arith
+spoken-few Together t us = counted-few t us
 
 module _ (w : World) (o : Tabled w) where
   pub tile-table : TileTable (w .tiles) (w .session .tiles)
@@ -49,13 +49,13 @@ module _ (w : World) (o : Tabled w) where
   operations-count = length-map (usedOperations w) opIn ∙ length-take-le (w .session .operations) (w .operations) (o .operations-fit)
 
   -- the places that are spoken for, as the code counts them
-  pub spoken-for : spokenFor (w .session .rule) (state w .book)
-      ≡ w .session .tiles + besides (w .session .rule) (usedTiles w) (map opIn (usedOperations w))
-  spoken-for = ap (λ n. n + besides (w .session .rule) (usedTiles w) (map opIn (usedOperations w))) tiles-count
+  pub places-taken : placesTaken (w .session .rule) (state w .book)
+      ≡ w .session .tiles + spokenBy (w .session .rule) (usedTiles w) (map opIn (usedOperations w))
+  places-taken = ap (λ n. n + spokenBy (w .session .rule) (usedTiles w) (map opIn (usedOperations w))) tiles-count
 
   -- by either rule no more than the tiles and the entries of kind 3
-  pub few-spoken : spokenFor (w .session .rule) (state w .book) ≤ w .session .tiles + countThree (usedOperations w)
-  few-spoken = omega (arith, spoken-for, besides-few (w .session .rule) (usedTiles w) (map opIn (usedOperations w)), reserved-three (usedOperations w))
+  pub few-taken : placesTaken (w .session .rule) (state w .book) ≤ w .session .tiles + countThree (usedOperations w)
+  few-taken = omega (arith, places-taken, spoken-few (w .session .rule) (usedTiles w) (map opIn (usedOperations w)), reserved-three (usedOperations w))
 
   -- there is room for the tiles with those that are counted, whichever the rule
   pub room-there : length (usedTiles w) + counted (usedTiles w) (map opIn (usedOperations w)) ≤ length (w .tiles)
@@ -67,7 +67,7 @@ module _ (places slots : ℕ) (s : State) (job : ℕ) (p : Procedure) (k : ℕ) 
   theHolder = heldBy (s .rule) (s .book) job p k
 
   abbrev pub lacksPlace : Bool
-  lacksPlace = needsPlace (s .rule) (s .book .table) (begun job p k (s .book .tiles)) && eqb (spokenFor (s .rule) (s .book)) places
+  lacksPlace = needsPlace (s .rule) (s .book .table) (begun job p k (s .book .tiles)) && eqb (placesTaken (s .rule) (s .book)) places
 
   abbrev pub lacksSlot : Bool
   lacksSlot = eqb (length (s .book .table)) slots

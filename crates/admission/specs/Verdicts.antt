@@ -5,7 +5,7 @@ use Prim.Native.Nat.{ℕ}
 use lib.Dec.{eqb}
 use lib.ListN.{length}
 use Rattle.service.specs.Admission.{State}
-use Rattle.strict.specs.Book.{heldBy, needsPlace, spokenFor}
+use Rattle.strict.specs.Book.{heldBy, needsPlace, placesTaken}
 use Rattle.strict.specs.Commutativity.{Signature}
 use Rattle.strict.specs.Operations.{begun}
 use Rattle.strict.specs.declared.Procedure.{Procedure}
@@ -21,5 +21,5 @@ byHolder none other = other
 unfoldable pub verdictOf : ℕ → ℕ → State → ℕ → Procedure → ℕ → Verdict
 verdictOf places slots s job p k =
     byHolder (heldBy (s .rule) (s .book) job p k)
-    (cond (needsPlace (s .rule) (s .book .table) (begun job p k (s .book .tiles)) && eqb (spokenFor (s .rule) (s .book)) places) NoTileRoom
+    (cond (needsPlace (s .rule) (s .book .table) (begun job p k (s .book .tiles)) && eqb (placesTaken (s .rule) (s .book)) places) NoTileRoom
     (cond (eqb (length (s .book .table)) slots) NoOperationRoom (Admitted (spotOf k (s .book .tiles)))))

@@ -4,7 +4,7 @@ ghost use mathlib.Core.List.{[]};
 ghost use mathlib.Core.Path.{_≡_};
 ghost use lib.Dec.{eqb};
 ghost use lib.ListN.{length};
-ghost use Rattle.strict.specs.Book.{spokenFor};
+ghost use Rattle.strict.specs.Book.{placesTaken};
 ghost use Rattle.strict.specs.Operations as report;
 ghost use Rattle.service.specs.Sound.{Tabled};
 ghost use Rattle.service.specs.World.{state, world};
@@ -65,7 +65,7 @@ pub fn answer(procedure: Procedure, found: bool) -> bool
 fn lacks_place(session: Session, tiles: &[u32], operations: &[u64], kind: usize, key: u32) -> bool
     requires { ⌜ Tabled (world session (now tiles) (now operations) []) ⌝ }
     ensures { λ r. ⌜ r ≡ (wantsPlace (session .rule) (state (world session (now (tiles .entry)) (now (operations .entry)) []) .book .table) kind key
-        && eqb (spokenFor (session .rule) (state (world session (now (tiles .entry)) (now (operations .entry)) []) .book)) (length (now (tiles .entry)))) ⌝ }
+        && eqb (placesTaken (session .rule) (state (world session (now (tiles .entry)) (now (operations .entry)) []) .book)) (length (now (tiles .entry)))) ⌝ }
 {
     let rule = session.rule;
     let count = session.tiles;
@@ -79,7 +79,7 @@ fn lacks_place(session: Session, tiles: &[u32], operations: &[u64], kind: usize,
     if !rules::needs_place(rule, operations, used, kind, key) {
         return false;
     }
-    count + rules::count_besides(session, tiles, operations) == tiles.len()
+    count + rules::count_spoken(session, tiles, operations) == tiles.len()
 }
 
 // Judges an operation and writes nothing: first the holder, then tile room, then operation room.

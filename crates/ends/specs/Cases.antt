@@ -13,6 +13,7 @@ use Rattle.service.specs.Calls.{concluded, startCall}
 use Rattle.service.specs.Cases.{A, Exchange, _↝_, a, b, from, okA, okB, worldAfter}
 use Rattle.service.specs.History.{opening, operating}
 use Rattle.service.specs.Journal.{encode, ruleBytes}
+use Rattle.service.specs.Levels.{levelsOf}
 use Rattle.service.specs.Sound.{soundB, tabledB}
 use Rattle.service.specs.Tile.{isKey, keyOf}
 use Rattle.service.specs.Told.{bare, done}
@@ -52,7 +53,8 @@ otherWay = cancels 3 ∷ keeps 1 ∷ cancels 2 ∷ []
 -- A alone is left, with so many used bytes: those written, these ends, and zeros
 abbrev left : Rule → ℕ → List ℕ → List ℕ → World
 left r used ends zeros =
-    world (record { rule = r; marks = replicate 64 false; tiles = 1; operations = 0; journal = used }) (A ∷ 0 ∷ []) (0 ∷ 0 ∷ 0 ∷ []) (written r ++ ends ++ zeros)
+    world (record { rule = r; marks = replicate 64 false; tiles = 1; operations = 0; journal = used; levels = 1 ∷ replicate 10 0; spoken = 0 })
+    (A ∷ 0 ∷ []) (0 ∷ 0 ∷ 0 ∷ []) (written r ++ ends ++ zeros)
 
 pub ends-cases : after (running Alone) oneWay ∷ after (running Alone) otherWay ∷ after (running Together) oneWay ∷ after (running Together) otherWay ∷ []
     ≡ left Alone 60 (3 ∷ 0 ∷ 1 ∷ 1 ∷ 4 ∷ 0 ∷ 1 ∷ 2 ∷ 4 ∷ 0 ∷ 1 ∷ 3 ∷ []) (replicate 6 0)
@@ -60,5 +62,5 @@ pub ends-cases : after (running Alone) oneWay ∷ after (running Alone) otherWay
     ∷ left Together 64 (3 ∷ 0 ∷ 1 ∷ 1 ∷ 4 ∷ 0 ∷ 1 ∷ 2 ∷ 4 ∷ 0 ∷ 1 ∷ 3 ∷ []) (replicate 2 0)
     ∷ left Together 64 (4 ∷ 0 ∷ 1 ∷ 3 ∷ 3 ∷ 0 ∷ 1 ∷ 1 ∷ 4 ∷ 0 ∷ 1 ∷ 2 ∷ []) (replicate 2 0)
     ∷ []
-unfolding keyOf isKey tabledB soundB startCall concluded encode entryAt
+unfolding keyOf isKey tabledB soundB startCall concluded encode entryAt levelsOf
 ends-cases = refl

@@ -16,7 +16,7 @@ use Rattle.strict.specs.declared.Procedure.the-variants.{Del, Ins, Mem}
 use Rattle.strict.specs.declared.Rule.the-variants.{Alone}
 use Rattle.strict.specs.declared.Rule.{Rule}
 use Rattle.service.specs.Admission.{State}
-use Rattle.service.specs.Calls.{stored}
+use Rattle.service.specs.Calls.{sessionOf, stored}
 use Rattle.service.specs.Demands.{all-marks, reached}
 use Rattle.service.specs.History.{Call, From}
 use Rattle.service.specs.Laws.Soundness.{sound-is}
@@ -30,10 +30,6 @@ use Rattle.rectangles.specs.Theorems.{written-out}
 use Rattle.ends.specs.Ends.{EitherFirst, End, Group, Reordered, SameEnd, behind, cancels, careful, endRecords, endedBy, greedy, keeps, wary, whose}
 use Rattle.ends.specs.Laws.Orders.{either-first}
 use Rattle.ends.specs.Laws.Worlds.{all-left, group-same, journal-left, same-bytes, same-number, states-same}
-
--- the session that holds a state, with so many journal bytes more
-abbrev sessionOf : World → State → ℕ → Session
-sessionOf w s n = record { rule = s .rule; marks = s .marks; tiles = length (s .book .tiles); operations = length (s .book .table); journal = w .session .journal + n }
 
 -- From every sound world with its 64 marks, however it came about and by either rule. What is needed: that the jobs differ and are open (edits of `Group`);
 -- soundness, for an end of a world that is not sound is refused by 1, and two aborts may then leave different tiles (`needs-soundness`); and the 64
@@ -50,7 +46,7 @@ ends-in-any-order w es fs full sound g r =
       fs-done = b .done-so;
       same-tiles = ap (λ (v : World). v .tiles) (a .left-so) ∙ ap (λ x. stored w x (endRecords es) .tiles) s ∙ ap (λ (v : World). v .tiles) (sym (b .left-so));
       same-operations = ap (λ (v : World). v .operations) (a .left-so) ∙ ap (λ x. stored w x (endRecords es) .operations) s ∙ ap (λ (v : World). v .operations) (sym (b .left-so));
-      same-session = ap (λ (v : World). v .session) (a .left-so) ∙ (λ i. sessionOf w (s i) (n i)) ∙ ap (λ (v : World). v .session) (sym (b .left-so));
+      same-session = ap (λ (v : World). v .session) (a .left-so) ∙ (λ i. sessionOf (s i) (w .session .journal + n i)) ∙ ap (λ (v : World). v .session) (sym (b .left-so));
       es-written = journal-left w es a;
       fs-written = journal-left w fs b ∙ ap (λ n. usedJournal w ++ endRecords fs ++ behind w n) (sym (same-number r));
     }

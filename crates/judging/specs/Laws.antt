@@ -11,7 +11,7 @@ use lib.Seq.{length-take-le, slice}
 use borrow.Author.Tests.{eqb-false, le-ltb, lt-ltb, not-true}
 use Rattle.lists.specs.Lists.{slice-end, slice-next}
 use Rattle.lists.specs.Truth.{both, both-false, oneIf}
-use Rattle.strict.specs.Book.{Book, deleted, heldBy, needsPlace, spokenFor}
+use Rattle.strict.specs.Book.{Book, deleted, heldBy, needsPlace, placesTaken}
 use Rattle.strict.specs.Commutativity.{Signature, holder}
 use Rattle.strict.specs.Operations.{Op, begun, kind}
 use Rattle.strict.specs.Tiles.{member}
@@ -146,10 +146,10 @@ needed-few b m job p (k ∷ ks) = let ih = needed-few b m job p ks in let o = on
 
 -- THE ROOM: 7, 8 and 9
 module _ (w : World) (need n : ℕ) where
-  pub no-places : length (w .tiles) < spokenFor (w .session .rule) (state w .book) + need → bare 7 ≡ decided (roomFor w need n) (bare 0)
+  pub no-places : length (w .tiles) < placesTaken (w .session .rule) (state w .book) + need → bare 7 ≡ decided (roomFor w need n) (bare 0)
   no-places h = rw (lt-ltb _ _ h)
 
-  module _ (places : spokenFor (w .session .rule) (state w .book) + need ≤ length (w .tiles)) where
+  module _ (places : placesTaken (w .session .rule) (state w .book) + need ≤ length (w .tiles)) where
     pub no-slots : length (w .operations) < length (state w .book .table) + n → bare 8 ≡ decided (roomFor w need n) (bare 0)
     no-slots h = rw (le-ltb _ _ places, lt-ltb _ _ h)
 

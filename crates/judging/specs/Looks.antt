@@ -4,7 +4,7 @@ use mathlib.Core.Option.{Option, none, some}
 use Prim.Native.Nat.{_*_, _+_, ℕ}
 use lib.Dec.{ltb}
 use lib.ListN.{length}
-use Rattle.strict.specs.Book.{Book, heldBy, needsPlace, spokenFor}
+use Rattle.strict.specs.Book.{Book, heldBy, needsPlace, placesTaken}
 use Rattle.strict.specs.Commutativity.{Signature}
 use Rattle.strict.specs.Operations.{begun}
 use Rattle.strict.specs.declared.Procedure.{Procedure}
@@ -38,5 +38,5 @@ listOf b m job p ks = listBy (firstHeld b m job p ks) (needed b m job p ks)
 -- 7, 8 and 9, where `need` tiles of n need a place
 abbrev pub roomFor : World → ℕ → ℕ → List Refusal
 roomFor w need n =
-    roomRefusals (ltb (length (w .tiles)) (spokenFor (w .session .rule) (state w .book) + need)) (ltb (length (w .operations)) (length (state w .book .table) + n))
+    roomRefusals (ltb (length (w .tiles)) (placesTaken (w .session .rule) (state w .book) + need)) (ltb (length (w .operations)) (length (state w .book .table) + n))
     (ltb (freeBytes w) (operationSize * n + shortSize * openMarks (w .session .marks)))

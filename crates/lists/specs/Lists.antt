@@ -1,13 +1,15 @@
 -- Tests of all members of a list, and what they say
 use mathlib.Core.Bool.{Bool, _&&_, and-false, and-true, false, true}
 use mathlib.Core.List.{List, [], _++_, _∷_}
-use mathlib.Core.Path.{_∙_, _≡_, ap, refl, sym}
+use mathlib.Core.Path.{_∙_, _≡_, ap, ap₂, refl, sym}
 use Prim.Native.Nat.{_+_, _-_, _<_, _≤_, suc, ℕ}
 use native.Mathlib.Numerals.{add-one}
 use native.Mathlib.Omega.{arith}
+use lib.Dec.{eqb}
 use lib.ListN.{drop-of-length-le, getD, length, length-take, replicate, set, take}
 use lib.Seq.{sets, slice, slice-cons}
-use Rattle.lists.specs.Truth.{and-both, both}
+use borrow.Author.Tests.{eqb-true}
+use Rattle.lists.specs.Truth.{and-both, both, eqb-same, never}
 
 abbrev pub allTrue : {A : Type 0} → (A → Bool) → List A → Bool
 allTrue f [] = true
@@ -25,6 +27,26 @@ module _ {A : Type 0} (f : A → Bool) (P : A → Type 0) where
   pub is-all : ((x : A) → P x → f x ≡ true) → (xs : List A) → All P xs → allTrue f xs ≡ true
   is-all g [] h = refl
   is-all g (x ∷ xs) h = and-both (g x (h .0)) (is-all g xs (h .1))
+
+-- two lists of the same numbers, as a test
+abbrev pub sameNumbers : List ℕ → List ℕ → Bool
+sameNumbers [] [] = true
+sameNumbers [] (y ∷ ys) = false
+sameNumbers (x ∷ xs) [] = false
+sameNumbers (x ∷ xs) (y ∷ ys) = eqb x y && sameNumbers xs ys
+
+pub numbers-same : (xs ys : List ℕ) → sameNumbers xs ys ≡ true → xs ≡ ys
+numbers-same [] [] e = refl
+numbers-same [] (y ∷ ys) e = never (sym e)
+numbers-same (x ∷ xs) [] e = never (sym e)
+numbers-same (x ∷ xs) (y ∷ ys) e = let p = both (eqb x y) (sameNumbers xs ys) e in ap₂ {C = List ℕ} (λ z zs. z ∷ zs) (eqb-true x y (p .0)) (numbers-same xs ys (p .1))
+
+pub same-numbers : {xs ys : List ℕ} → xs ≡ ys → sameNumbers xs ys ≡ true
+same-numbers {xs} e = ap (sameNumbers xs) (sym e) ∙ go xs
+  where
+    go : (zs : List ℕ) → sameNumbers zs zs ≡ true
+    go [] = refl
+    go (z ∷ zs) = and-both (eqb-same z) (go zs)
 
 -- A PASS over the first n elements of a list: before the one at i, `slice i n l` is left
 module _ (l : List ℕ) (n i : ℕ) where

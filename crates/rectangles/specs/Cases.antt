@@ -12,6 +12,7 @@ use Rattle.service.specs.Calls.{concluded, startCall}
 use Rattle.service.specs.Cases.{address, from, heldBy1, okA, okB}
 use Rattle.service.specs.History.{aborting, committing, opening, operating}
 use Rattle.service.specs.Journal.{encode}
+use Rattle.service.specs.Levels.{levelsOf}
 use Rattle.service.specs.Sound.{soundB, tabledB}
 use Rattle.service.specs.Tile.{columnIn, isKey, keyOf, rowIn}
 use Rattle.service.specs.Told.{bare}
@@ -179,9 +180,9 @@ played x =
     play (x .by) (x .tiles) (x .places) (x .slots) (x .bytes) (x .asked) (toldBy w (x .asked)) (usedTiles (worldAfter w (x .asked)))
 
 pub plays-hold : map played plays ≡ plays
-unfolding keyOf isKey tabledB soundB startCall concluded encode entryAt rectangleCall
+unfolding keyOf isKey tabledB soundB startCall concluded encode entryAt rectangleCall levelsOf
 plays-hold = refl
 
 pub own-plays : map played ownPlays ≡ ownPlays
-unfolding keyOf isKey tabledB soundB startCall concluded encode entryAt rectangleCall
+unfolding keyOf isKey tabledB soundB startCall concluded encode entryAt rectangleCall levelsOf
 own-plays = refl

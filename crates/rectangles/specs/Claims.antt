@@ -10,7 +10,7 @@ use lib.IntN.{ℤ}
 use lib.ListN.{length}
 use lib.Signed.{_<ℤ_, _≤ℤ_}
 use Rattle.lists.specs.Lists.{All}
-use Rattle.strict.specs.Book.{Book, heldBy, needsPlace, spokenFor, step}
+use Rattle.strict.specs.Book.{Book, heldBy, needsPlace, placesTaken, step}
 use Rattle.strict.specs.Commutativity.{FirstHolder, Signature}
 use Rattle.strict.specs.Histories.{operation}
 use Rattle.strict.specs.Operations.{begun}
@@ -79,7 +79,7 @@ recordsOf job sheet p (a ∷ xs) = encode (recordOf (operation job sheet p (keyF
 abbrev pub placesRunOut : Rule → ℕ → Book → ℕ → ℕ → Procedure → List ℕ → Bool
 placesRunOut rule places m job sheet p [] = false
 placesRunOut rule places m job sheet p (k ∷ ks) =
-    (needsPlace rule (m .table) (begun job p k (m .tiles)) && eqb (spokenFor rule m) places) || placesRunOut rule places (step m (operation job sheet p k)) job sheet p ks
+    (needsPlace rule (m .table) (begun job p k (m .tiles)) && eqb (placesTaken rule m) places) || placesRunOut rule places (step m (operation job sheet p k)) job sheet p ks
 
 abbrev pub slotsRunOut : ℕ → Book → ℕ → ℕ → Procedure → List ℕ → Bool
 slotsRunOut slots m job sheet p [] = false

@@ -6,7 +6,7 @@ use mathlib.Core.Path.{_≡_}
 use Prim.Native.Nat.{_*_, _+_, _≤_, ℕ}
 use lib.ListN.{length}
 use Rattle.lists.specs.Lists.{All}
-use Rattle.strict.specs.Book.{spokenFor}
+use Rattle.strict.specs.Book.{placesTaken}
 use Rattle.strict.specs.declared.Procedure.{Procedure}
 use Rattle.service.specs.Admission.{openMarks}
 use Rattle.service.specs.Claims.{Serves}
@@ -25,7 +25,7 @@ Placed xs = All (λ a. unplaced a ≡ false) xs
 pub record Fits (w : World) (job : ℕ) (p : Procedure) (ks : List ℕ) : Type 0 where
   pub ready : Serves w job
   pub unheld : firstHeld (w .session .rule) (state w .book) job p ks ≡ none
-  pub places : spokenFor (w .session .rule) (state w .book) + needed (w .session .rule) (state w .book) job p ks ≤ length (w .tiles)
+  pub places : placesTaken (w .session .rule) (state w .book) + needed (w .session .rule) (state w .book) job p ks ≤ length (w .tiles)
   pub slots : length (state w .book .table) + length ks ≤ length (w .operations)
   pub bytes : operationSize * length ks + shortSize * openMarks (w .session .marks) ≤ freeBytes w
 

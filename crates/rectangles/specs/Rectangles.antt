@@ -7,7 +7,7 @@ use lib.Dec.{eqb, ltb}
 use lib.IntN.{_+ℤ_, negsuc, pos, ℤ}
 use lib.ListN.{length}
 use Rattle.lists.specs.Truth.{oneIf}
-use Rattle.strict.specs.Book.{Book, heldBy, needsPlace, spokenFor}
+use Rattle.strict.specs.Book.{Book, heldBy, needsPlace, placesTaken}
 use Rattle.strict.specs.Commutativity.{Signature}
 use Rattle.strict.specs.Histories.{operation}
 use Rattle.strict.specs.Operations.{begun}
@@ -113,7 +113,7 @@ needed rule m job p (k ∷ ks) = oneIf (needsPlace rule (m .table) (begun job p 
 
 -- 7: more than are free; 8: the list is longer than the free operation places; 9: there are fewer bytes than a record a tile, and one for each open job, take
 abbrev pub fewPlaces : World → ℕ → Procedure → List ℕ → Bool
-fewPlaces w job p ks = ltb (length (w .tiles)) (spokenFor (w .session .rule) (state w .book) + needed (w .session .rule) (state w .book) job p ks)
+fewPlaces w job p ks = ltb (length (w .tiles)) (placesTaken (w .session .rule) (state w .book) + needed (w .session .rule) (state w .book) job p ks)
 
 abbrev pub fewSlots : World → List ℕ → Bool
 fewSlots w ks = ltb (length (w .operations)) (length (state w .book .table) + length ks)

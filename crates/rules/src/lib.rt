@@ -3,7 +3,7 @@ ghost use mathlib.Core.List.{map};
 ghost use mathlib.Core.Path.{_≡_};
 ghost use Prim.Native.Nat.{_≤_};
 ghost use lib.ListN.{length, take};
-ghost use Rattle.strict.specs.Book.{besides};
+ghost use Rattle.strict.specs.Book.{spokenBy};
 ghost use Rattle.service.specs.Entry.{opIn};
 ghost use Rattle.service.specs.Sound.{settledB};
 ghost use Rattle.search.specs.Table.{TileTable};
@@ -26,9 +26,9 @@ pub fn is_settled(session: Session, tiles: &[u32], operations: &[u64]) -> bool
 }
 
 // How many tile places are spoken for besides those of the tiles.
-pub fn count_besides(session: Session, tiles: &[u32], operations: &[u64]) -> usize
+pub fn count_spoken(session: Session, tiles: &[u32], operations: &[u64]) -> usize
     requires { ⌜ TileTable (now tiles) (session .tiles) × (session .operations ≤ length (now operations)) × (session .operations ≤ 1024) ⌝ }
-    ensures { λ r. ⌜ (r ≡ besides (session .rule) (take (session .tiles) (now (tiles .entry))) (map opIn (take (session .operations) (now (operations .entry)))))
+    ensures { λ r. ⌜ (r ≡ spokenBy (session .rule) (take (session .tiles) (now (tiles .entry))) (map opIn (take (session .operations) (now (operations .entry)))))
         × (r ≤ 1024) ⌝ }
 {
     let rule = session.rule;

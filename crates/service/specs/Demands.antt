@@ -7,7 +7,7 @@ use mathlib.Core.Path.{_∙_, _≡_, ap, ap₂, subst}
 use Prim.Native.Nat.{_-_, _<_, _≤_, ℕ}
 use native.Mathlib.Omega.{arith}
 use lib.ListN.{length, take}
-use Rattle.strict.specs.Book.{spokenFor}
+use Rattle.strict.specs.Book.{placesTaken}
 use Rattle.strict.specs.Choices.{Choice}
 use Rattle.strict.specs.Histories.{kept, opened, operation, unfinished}
 use Rattle.strict.specs.Operations.{Op}
@@ -55,7 +55,7 @@ module _ {r : Rule} {tiles : List ℕ} {count : ℕ} {operations journal : List 
   stays-fitting d =
       let a = room-is-enough r start-tiles (history cs) (there .start-stands .ascending) (reached .admitted) d in
       let b = there .is-sound-there .tables .room in
-      let c = ap₂ (λ q m. spokenFor q m) (reached .by-rule) (reached .book-there) in
+      let c = ap₂ (λ q m. placesTaken q m) (reached .by-rule) (reached .book-there) in
       let e = there .same-places in
       omega arith
 

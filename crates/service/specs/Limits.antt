@@ -57,3 +57,6 @@ lowestZoom = 4
 
 abbrev pub highestZoom : ℕ
 highestZoom = 14
+
+abbrev pub levelCount : ℕ
+levelCount = 11

@@ -20,7 +20,7 @@ use Rattle.strict.specs.declared.Procedure.{Procedure}
 use Rattle.strict.specs.declared.Rule.the-variants.{Alone, Together}
 use Rattle.strict.specs.declared.Rule.{Rule}
 use Rattle.service.specs.Admission.{State, answerTo, isOpen}
-use Rattle.service.specs.Calls.{abortCall, carried, commitCall, concluded, fresh, openCall, operationCall, ruledWorld, startCall, startWorld}
+use Rattle.service.specs.Calls.{abortCall, carried, commitCall, concluded, emptySession, fresh, openCall, operationCall, ruledWorld, startCall, startWorld}
 use Rattle.service.specs.Claims.{ChangedByOther, Keeps, Missing, Named, NoRoomByJob, OfEdition, Placeless, Serves, Tells, WantsOpen, holderIn, openBytes, operationBytes, refusing}
 use Rattle.service.specs.Entry.{opIn}
 use Rattle.service.specs.Extents.{recordSize}
@@ -143,11 +143,11 @@ module _ (r : Rule) (tiles : List ℕ) (count : ℕ) (operations journal : List 
 
   pub start-refused : startCall r tiles count operations journal .told .number ≢ 0
       → ((startCall r tiles count operations journal .told ≡ bare 1) ⊎ (startCall r tiles count operations journal .told ≡ bare 9))
-      × (startCall r tiles count operations journal .after ≡ world (fresh Alone 0) tiles operations journal)
+      × (startCall r tiles count operations journal .after ≡ world emptySession tiles operations journal)
   unfolding startCall
   start-refused n = (
     start-numbers (soundB (startWorld r tiles count operations journal)) (ltb (length journal) (length (ruleBytes r))) n,
-    ap (λ b. cond b (ruledWorld r tiles count operations journal) (world (fresh Alone 0) tiles operations journal)) (ne-eqb (startCall r tiles count operations journal .told .number) 0 n),
+    ap (λ b. cond b (ruledWorld r tiles count operations journal) (world emptySession tiles operations journal)) (ne-eqb (startCall r tiles count operations journal .told .number) 0 n),
   )
 
   -- one that is done leaves the session of the rule, and writes the bytes of its rule in front and no byte elsewhere

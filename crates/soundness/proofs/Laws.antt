@@ -18,8 +18,8 @@ use Rattle.service.specs.Sound.{every, journalTests, settledB, soundB, tabledB,
 use Rattle.service.specs.Tile.{isKey}
 use Rattle.service.specs.World.{state, world}
 use Rattle.service.specs.declared.Session.{Session}
-use Rattle.strict.specs.Book.{besides, spokenFor}
-use Rattle.strict.specs.Laws.Room.{nothing-besides}
+use Rattle.strict.specs.Book.{placesTaken, spokenBy}
+use Rattle.strict.specs.Laws.Room.{nothing-spoken}
 use Rattle.strict.specs.declared.Rule.{Rule}
 use Rattle.search.specs.Laws.{zeros-table}
 use Rattle.search.specs.Table.{TileTable}
@@ -35,7 +35,7 @@ module _ (s : Session) (t o : List ℕ) where
       ∷ allEntries (s .marks) (take (s .operations) o)
       ∷ zeros (drop (s .operations) o)
       ∷ settledB (s .rule) (take (s .tiles) t) (take (s .operations) o)
-      ∷ leb (spokenFor (s .rule) (state (world s t o []) .book)) (length t)
+      ∷ leb (placesTaken (s .rule) (state (world s t o []) .book)) (length t)
       ∷ []
 
   tabled-parts : tabledB (world s t o []) ≡ every parts
@@ -72,7 +72,7 @@ module _ (s : Session) (t o : List ℕ) where
   pub room-decides : every (countTests s t o) ≡ true → (sortedKeys (take (s .tiles) t) && zeros (drop (s .tiles) t)) ≡ true
       → allEntries (s .marks) (take (s .operations) o) ≡ true → zeros (drop (s .operations) o) ≡ true
       → settledB (s .rule) (take (s .tiles) t) (take (s .operations) o) ≡ true
-      → leb (s .tiles + besides (s .rule) (take (s .tiles) t) (map opIn (take (s .operations) o))) (length t) ≡ tabledB (world s t o [])
+      → leb (s .tiles + spokenBy (s .rule) (take (s .tiles) t) (map opIn (take (s .operations) o))) (length t) ≡ tabledB (world s t o [])
   room-decides counts tiles entries operations-rest settled =
       let used = length-take-le (s .tiles) t (counted counts .tiles-fit) in
       rw (tabled-parts, counts, tiles, entries, operations-rest, settled, used) (sym (and-true _))
@@ -97,8 +97,8 @@ module _ (r : Rule) (t : List ℕ) (count : ℕ) (o j : List ℕ) where
   counts-again = rw (length-replicate {A = ℕ} (length o) 0)
 
   -- nothing is spoken for besides
-  used-few : length (take count t) + besides r (take count t) [] ≤ length t
-  used-few = rw (nothing-besides r (take count t)) (simp length-take (omega arith))
+  used-few : length (take count t) + spokenBy r (take count t) [] ≤ length t
+  used-few = rw (nothing-spoken r (take count t)) (simp length-take (omega arith))
 
   start-parts : soundB (startWorld r t count o j) ≡ every starts
   unfolding soundB tabledB

@@ -55,7 +55,7 @@ pub fn tables_sound(session: Session, tiles: &[u32], operations: &[u64]) -> bool
     if !rules::is_settled(session, tiles, operations) {
         return false;
     }
-    count + rules::count_besides(session, tiles, operations) <= tiles.len()
+    count + rules::count_spoken(session, tiles, operations) <= tiles.len()
 }
 
 // Whether a session and its lent tables are sound.

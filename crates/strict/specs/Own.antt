@@ -7,7 +7,7 @@ use Prim.Native.Nat.{_≤_, ℕ}
 use native.Mathlib.Omega.{arith}
 use lib.Dec.{eqb}
 use lib.ListN.{length}
-use Rattle.strict.specs.Book.{Book, bookAfter, heldBy, needsPlace, oldestFirst, recover, spokenFor}
+use Rattle.strict.specs.Book.{Book, bookAfter, heldBy, needsPlace, oldestFirst, recover, placesTaken}
 use Rattle.strict.specs.Histories.{Event, kept, openJob, operation}
 use Rattle.strict.specs.Operations.{Op, begun, undo}
 use Rattle.strict.specs.Strict.{Log, SameAnswers, Strict, _▷_, empty, inGroups, run, without}
@@ -70,7 +70,7 @@ held-though-strict = (refl, λ d. record { same-answers = answers (d 1) (d 2); t
     same-tiles false false false false = refl
 
 -- in one place, its insert of B is refused, though every choice of whole jobs leaves one tile at most
-pub spoken-for-though-free : (needsPlace Together (there .table) (begun 2 Ins B []) ≡ true) × (spokenFor Together there ≡ 1)
+pub spoken-for-though-free : (needsPlace Together (there .table) (begun 2 Ins B []) ≡ true) × (placesTaken Together there ≡ 1)
     × ((d : ℕ → Bool) → length (run [] (without (inGroups Together d) (kept [] (insertedDeleted ▷ operation 2 0 Ins B)))) ≤ 1)
 unfolding left
 spoken-for-though-free = (refl, refl, λ d. fits (d 1) (d 2))

@@ -8,7 +8,7 @@ use Prim.Native.Nat.{_<_, _≤_, ℕ}
 use native.Mathlib.Nat.{le-trans}
 use lib.Dec.{eqb}
 use lib.ListN.{length}
-use Rattle.strict.specs.Book.{Admitted, Book, CountedTiles, LeftCommitted, Roomy, Unheld, bookAfter, heldBy, oldestFirst, recover, spokenFor, step, sweep}
+use Rattle.strict.specs.Book.{Admitted, Book, CountedTiles, LeftCommitted, Roomy, Unheld, bookAfter, heldBy, oldestFirst, recover, placesTaken, step, sweep}
 use Rattle.strict.specs.Choices.{Choice, StrictLists}
 use Rattle.strict.specs.Commutativity.{Commutes, FirstHolder, Signature, commutes, holder}
 use Rattle.strict.specs.Histories.{Event, abort, kept, opened, operation, strike, unfinished}
@@ -81,7 +81,7 @@ module _ (r : Rule) (s : List ℕ) (h : Log Event) (ascending : Ascending s) (ad
   sweep-leaves-committed = sweep-leaves r s h ascending admitted
 
   -- whatever groups are dropped, the tiles left are no more than the places spoken for
-  pub room-is-enough : (d : ℕ → Bool) → length (run s (without (inGroups r d) (kept s h))) ≤ spokenFor r (bookAfter s h)
+  pub room-is-enough : (d : ℕ → Bool) → length (run s (without (inGroups r d) (kept s h))) ≤ placesTaken r (bookAfter s h)
   room-is-enough d = room-enough r s h ascending admitted d
 
   -- and so they fit N places where each operation found room in them
@@ -95,5 +95,5 @@ module _ (s : List ℕ) (h : Log Event) (ascending : Ascending s) (admitted : Ad
   held-is-exact j sheet p k is-open = held-exactly s h j sheet p k ascending admitted is-open
 
   -- some choice of the kept operations leaves more than N tiles just where more than N places are spoken for
-  pub room-is-exact : (N : ℕ) → ((chosen : Log Op) × Choice (kept s h) chosen × (N < length (run s chosen))) ↔ (N < spokenFor Alone (bookAfter s h))
+  pub room-is-exact : (N : ℕ) → ((chosen : Log Op) × Choice (kept s h) chosen × (N < length (run s chosen))) ↔ (N < placesTaken Alone (bookAfter s h))
   room-is-exact N = room-exactly s h ascending admitted N

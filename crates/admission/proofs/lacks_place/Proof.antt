@@ -14,10 +14,10 @@ use Rattle.lists.specs.Truth.{test-fails, test-passes}
 use Rattle.rules.specs.Laws.{other-kind}
 use Rattle.rules.specs.Rules.{wantsPlace}
 use Rattle.service.specs.World.{World, state, world}
-use Rattle.strict.specs.Book.{spokenFor}
+use Rattle.strict.specs.Book.{placesTaken}
 use Rattle.admission.proofs.lacks_place.Statement.{statement}
 use Rattle.admission.proofs.lacks_place.Tie as tie
-use Rattle.admission.specs.Laws.{few-spoken, spoken-for, tile-table}
+use Rattle.admission.specs.Laws.{few-taken, places-taken, tile-table}
 
 -- what the function was given
 abbrev given : tie.Start → World
@@ -29,12 +29,12 @@ module _ (w : World) (n key : ℕ) where
   wants = wantsPlace (w .session .rule) (state w .book .table) n key
 
   abbrev full : Bool
-  full = eqb (spokenFor (w .session .rule) (state w .book)) (length (w .tiles))
+  full = eqb (placesTaken (w .session .rule) (state w .book)) (length (w .tiles))
 
   not-wanted : false ≡ wants → false ≡ (wants && full)
   not-wanted e = ap (λ b. b && full) e
 
-  not-full : (spokenFor (w .session .rule) (state w .book) ≡ length (w .tiles) → ⊥) → false ≡ (wants && full)
+  not-full : (placesTaken (w .session .rule) (state w .book) ≡ length (w .tiles) → ⊥) → false ≡ (wants && full)
   not-full h = sym (ap (λ b. wants && b) (ne-eqb _ _ h) ∙ and-false wants)
 
 returns : tie.Need-returns
@@ -53,7 +53,7 @@ add-if2 c =
 returns-2 : tie.Need-returns-2
 returns-2 c =
     let s = c .before .before .before .before .before in
-    not-full (given s) (s .args .kind) (s .args .key) (λ e. absurd (omega (arith, e, few-spoken (given s) (s .pre), c .before .count-reserved .ensures, c .if2 .taken)))
+    not-full (given s) (s .args .kind) (s .args .key) (λ e. absurd (omega (arith, e, few-taken (given s) (s .pre), c .before .count-reserved .ensures, c .if2 .taken)))
 
 needs-place-requires : tie.Need-needs-place-requires
 needs-place-requires c κs = search needs
@@ -63,21 +63,21 @@ returns-3 c =
     let s = c .before .before .before .before .before .before .before in
     not-wanted (given s) (s .args .kind) (s .args .key) (sym (test-fails (c .before .needs-place .ensures) (c .if3 .taken)))
 
-count-besides-requires : tie.Need-count-besides-requires
-count-besides-requires c κs =
+count-spoken-requires : tie.Need-count-spoken-requires
+count-spoken-requires c κs =
     let s = c .before .before .before .before .before .before .before in
     let few : s .args .session .operations ≤ 1024 = omega (arith, s .pre .operations-fit, s .pre .few-operations) in
     (tile-table (given s) (s .pre), s .pre .operations-fit, few)
 
 add-result : tie.Need-add-result
-add-result c = omega (arith, c .count-besides .ensures .1, c .before .before .before .before .before .before .before .before .pre .tiles-fit)
+add-result c = omega (arith, c .count-spoken .ensures .1, c .before .before .before .before .before .before .before .before .pre .tiles-fit)
 
 returns-4 : tie.Need-returns-4
 returns-4 c =
     let e = c .before in
     let s = e .before .before .before .before .before .before .before in
     rw (test-passes (e .before .needs-place .ensures) (e .if3 .left))
-    (ap (λ n. eqb n (length (now (s .args .tiles)))) (ap (λ n. s .args .session .tiles + n) (c .count-besides .ensures .0) ∙ sym (spoken-for (given s) (s .pre))))
+    (ap (λ n. eqb n (length (now (s .args .tiles)))) (ap (λ n. s .args .session .tiles + n) (c .count-spoken .ensures .0) ∙ sym (places-taken (given s) (s .pre))))
 
 pub lacks-place-spec : {M : Type 1} → statement M
 lacks-place-spec =
@@ -89,6 +89,6 @@ lacks-place-spec =
     returns-2
     needs-place-requires
     returns-3
-    count-besides-requires
+    count-spoken-requires
     add-result
     returns-4)

@@ -10,7 +10,7 @@ use lib.Seq.{getD-set-other, length-take-le, sets-eq}
 use Rattle.lists.specs.Lists.{All, padded, sets-sets}
 use Rattle.strict.specs.Histories.{abort, commit}
 use Rattle.service.specs.Admission.{State, isOpen}
-use Rattle.service.specs.Calls.{carried, stored}
+use Rattle.service.specs.Calls.{carried, sessionOf, stored}
 use Rattle.service.specs.Claims.{Keeps}
 use Rattle.service.specs.Entry.{entryOf, opIn}
 use Rattle.service.specs.History.{call, event}
@@ -77,7 +77,17 @@ written-back w o =
     let t = sym (padded-zeros (w .session .tiles) (w .tiles) (o .tiles-fit) (o .tiles-rest)) in
     let u = ap (padded (length (w .operations))) (entries-back (w .session .marks) (usedOperations w) (o .entries))
     ∙ sym (padded-zeros (w .session .operations) (w .operations) (o .operations-fit) (o .operations-rest)) in
-    λ i. world (record { rule = w .session .rule; marks = w .session .marks; tiles = a i; operations = b i; journal = c i }) (t i) (u i) (w .journal)
+    λ i. world
+    (record {
+      rule = w .session .rule;
+      marks = w .session .marks;
+      tiles = a i;
+      operations = b i;
+      journal = c i;
+      levels = sym (o .levels-counted) i;
+      spoken = sym (o .spoken-counted) i;
+    })
+    (t i) (u i) (w .journal)
 
 -- to store twice is to store what came last, with the bytes of both
 stored-twice : (w : World) (s : State) (bs : List ℕ) (s′ : State) (cs : List ℕ) → Stands (length (w .tiles)) (length (w .operations)) s
@@ -88,7 +98,7 @@ stored-twice w s bs s′ cs h =
     let l = length-append bs cs in
     let n : w .session .journal + length bs + length cs ≡ w .session .journal + length (bs ++ cs) = omega arith in
     let j = sets-sets (w .journal) (w .session .journal) bs cs in
-    λ i. world (record { rule = s′ .rule; marks = s′ .marks; tiles = length (s′ .book .tiles); operations = length (s′ .book .table); journal = n i })
+    λ i. world (sessionOf s′ (n i))
     (padded (a i) (s′ .book .tiles)) (padded (b i) (map entryOf (s′ .book .table))) (j i)
 
 -- one end

@@ -5,31 +5,31 @@ use native.Mathlib.Omega.{arith}
 use lib.ListN.{length}
 use borrow.Author.Needs.{needs}
 use denote.Ref.{now}
-use Rattle.strict.specs.Book.{spokenFor}
+use Rattle.strict.specs.Book.{placesTaken}
 use Rattle.service.specs.World.{World, state, world}
-use Rattle.admission.specs.Laws.{operations-count, spoken-for, tile-table}
+use Rattle.admission.specs.Laws.{operations-count, places-taken, tile-table}
 use Rattle.judging.specs.Laws.{no-bytes, no-places, no-slots, room-enough}
 use Rattle.judging.proofs.lacking.Statement.{statement}
 use Rattle.judging.proofs.lacking.Tie as tie
 
 -- what the function was given
-abbrev given : tie.After-count-besides → World
+abbrev given : tie.After-count-spoken → World
 given c =
     let a = c .before .before .before .before .args in
     world (a .session) (now (a .tiles)) (now (a .operations)) (now (a .journal))
 
-record Known (c : tie.After-count-besides) : Type 0 where
-  spoken : spokenFor (given c .session .rule) (state (given c) .book) ≡ given c .session .tiles + c .count-besides .result
+record Known (c : tie.After-count-spoken) : Type 0 where
+  spoken : placesTaken (given c .session .rule) (state (given c) .book) ≡ given c .session .tiles + c .count-spoken .result
   used : length (state (given c) .book .table) ≡ given c .session .operations
-  room : given c .session .tiles + c .count-besides .result ≤ length (given c .tiles)
+  room : given c .session .tiles + c .count-spoken .result ≤ length (given c .tiles)
   few : length (given c .tiles) ≤ 4096
   written : given c .session .journal ≤ length (given c .journal)
 
-known : (c : tie.After-count-besides) → Known c
+known : (c : tie.After-count-spoken) → Known c
 known c =
     let o = c .before .before .before .before .pre .0 in
     let t = o .tables in
-    let e = spoken-for (given c) t ∙ ap (λ n. given c .session .tiles + n) (sym (c .count-besides .ensures .0)) in
+    let e = places-taken (given c) t ∙ ap (λ n. given c .session .tiles + n) (sym (c .count-spoken .ensures .0)) in
     record {
       spoken = e;
       used = operations-count (given c) t;
@@ -38,8 +38,8 @@ known c =
       written = o .journal-fits;
     }
 
-count-besides-requires : tie.Need-count-besides-requires
-count-besides-requires c κs =
+count-spoken-requires : tie.Need-count-spoken-requires
+count-spoken-requires c κs =
     let s = c .before .before .before in
     let t = s .pre .0 .tables in
     let few : s .args .session .operations ≤ 1024 = omega (arith, t .operations-fit, t .few-operations) in
@@ -51,10 +51,10 @@ add-if1 c = let k = known c in omega arith
 add-if1-2 : tie.Need-add-if1-2
 add-if1-2 c = let k = known c in omega arith
 
-short : (c : tie.Then1) → let w = given (c .before) in length (w .tiles) < spokenFor (w .session .rule) (state w .book) + c .before .before .before .before .before .args .need
+short : (c : tie.Then1) → let w = given (c .before) in length (w .tiles) < placesTaken (w .session .rule) (state w .book) + c .before .before .before .before .before .args .need
 short c = let k = known (c .before) in omega arith
 
-enough : (c : tie.Else1) → let w = given (c .before) in spokenFor (w .session .rule) (state w .book) + c .before .before .before .before .before .args .need ≤ length (w .tiles)
+enough : (c : tie.Else1) → let w = given (c .before) in placesTaken (w .session .rule) (state w .book) + c .before .before .before .before .before .args .need ≤ length (w .tiles)
 enough c = let k = known (c .before) in omega arith
 
 returns : tie.Need-returns
@@ -113,7 +113,7 @@ pub lacking-spec : {M : Type 1} → statement M
 lacking-spec =
     tie.close
     (tie.spec
-    count-besides-requires
+    count-spoken-requires
     add-if1
     add-if1-2
     returns

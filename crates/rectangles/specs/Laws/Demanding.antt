@@ -10,7 +10,7 @@ use lib.Dec.{leb}
 use lib.ListN.{length, take}
 use borrow.Author.Tests.{leb-false, leb-true, lt-ltb, ltb-true}
 use Rattle.lists.specs.Lists.{All}
-use Rattle.strict.specs.Book.{Book, bookAfter, heldBy, spokenFor}
+use Rattle.strict.specs.Book.{Book, bookAfter, heldBy, placesTaken}
 use Rattle.strict.specs.Choices.{Choice}
 use Rattle.strict.specs.Histories.{Event, kept, opened}
 use Rattle.strict.specs.Laws.Sweeping.{few-jobs}
@@ -31,7 +31,7 @@ use Rattle.service.specs.Limits.{operationSize, shortSize}
 use Rattle.service.specs.World.{World, freeBytes, state}
 use Rattle.service.specs.declared.Address.{Address}
 use Rattle.rectangles.specs.Claims.{Shaped, callsOf, followed, operations}
-use Rattle.rectangles.specs.Laws.Histories.{all-admitted, free-strict, spoken-all, withAll}
+use Rattle.rectangles.specs.Laws.Histories.{all-admitted, free-strict, taken-all, withAll}
 use Rattle.rectangles.specs.Laws.Judging.{held-none, none-held, told-room, told-six}
 use Rattle.rectangles.specs.Laws.Running.{places-run-out}
 use Rattle.rectangles.specs.Laws.Tiles.{all-apart}
@@ -102,7 +102,7 @@ module _ {tiles : List ℕ} {count : ℕ} {lent journal : List ℕ} {cs : Log Ca
 
   -- some choice leaves more than N tiles just where more than N places are spoken for
   room-iff : Strict Alone s added
-      → ((chosen : Log Op) × Choice added chosen × (N < length (run s chosen))) ↔ (N < spokenFor (w .session .rule) (state w .book) + needed (w .session .rule) (state w .book) job p ks)
+      → ((chosen : Log Op) × Choice added chosen × (N < length (run s chosen))) ↔ (N < placesTaken (w .session .rule) (state w .book) + needed (w .session .rule) (state w .book) job p ks)
   room-iff strict =
       let m = state w .book in
       let free = held-none (w .session .rule) m job p ks (free-iff .1 strict) in
@@ -111,10 +111,10 @@ module _ {tiles : List ℕ} {count : ℕ} {lent journal : List ℕ} {cs : Log Ca
       let exact = room-is-exact s (withAll h job sheet p ks) asc admitted N in
       let q : kept s (withAll h job sheet p ks) ≡ added = ap (kept s) (history-followed job sheet p cs (listed r)) in
       let up : Ascending (bookAfter s h .tiles) = subst (λ (x : Book). Ascending (x .tiles)) (there .book-there) (sound-is w (there .sound) .tables .ascending) in
-      let grown : spokenFor Alone (bookAfter s (withAll h job sheet p ks)) ≡ spokenFor (w .session .rule) m + needed (w .session .rule) m job p ks =
-      spoken-all s job sheet p asc h ks (all-apart r shaped) up ∙ ap₂ (λ b (x : Book). spokenFor b x + needed b x job p ks) (sym by-alone) (sym (there .book-there)) in
-      let e : ((chosen : Log Op) × Choice added chosen × (N < length (run s chosen))) ↔ (N < spokenFor Alone (bookAfter s (withAll h job sheet p ks))) =
-      subst (λ l. ((chosen : Log Op) × Choice l chosen × (N < length (run s chosen))) ↔ (N < spokenFor Alone (bookAfter s (withAll h job sheet p ks)))) q exact in
+      let grown : placesTaken Alone (bookAfter s (withAll h job sheet p ks)) ≡ placesTaken (w .session .rule) m + needed (w .session .rule) m job p ks =
+      taken-all s job sheet p asc h ks (all-apart r shaped) up ∙ ap₂ (λ b (x : Book). placesTaken b x + needed b x job p ks) (sym by-alone) (sym (there .book-there)) in
+      let e : ((chosen : Log Op) × Choice added chosen × (N < length (run s chosen))) ↔ (N < placesTaken Alone (bookAfter s (withAll h job sheet p ks))) =
+      subst (λ l. ((chosen : Log Op) × Choice l chosen × (N < length (run s chosen))) ↔ (N < placesTaken Alone (bookAfter s (withAll h job sheet p ks)))) q exact in
       (λ c. let l = e .0 c in omega arith, λ l. e .1 (omega arith))
 
   pub rectangle-room-just : Strict Alone s added
@@ -131,19 +131,19 @@ module _ {tiles : List ℕ} {count : ℕ} {lent journal : List ℕ} {cs : Log Ca
       )
 
   fits-iff : Strict Alone s added
-      → (spokenFor (w .session .rule) (state w .book) + needed (w .session .rule) (state w .book) job p ks ≤ N) ↔ ((chosen : Log Op) → Choice added chosen → length (run s chosen) ≤ N)
+      → (placesTaken (w .session .rule) (state w .book) + needed (w .session .rule) (state w .book) job p ks ≤ N) ↔ ((chosen : Log Op) → Choice added chosen → length (run s chosen) ≤ N)
   fits-iff strict = (
     λ l chosen c. go chosen c l (leb (length (run s chosen)) N) refl,
-    λ f. by f (leb (spokenFor (w .session .rule) (state w .book) + needed (w .session .rule) (state w .book) job p ks) N) refl,
+    λ f. by f (leb (placesTaken (w .session .rule) (state w .book) + needed (w .session .rule) (state w .book) job p ks) N) refl,
   )
     where
-      go : (chosen : Log Op) → Choice added chosen → spokenFor (w .session .rule) (state w .book) + needed (w .session .rule) (state w .book) job p ks ≤ N
+      go : (chosen : Log Op) → Choice added chosen → placesTaken (w .session .rule) (state w .book) + needed (w .session .rule) (state w .book) job p ks ≤ N
           → (b : Bool) → leb (length (run s chosen)) N ≡ b → length (run s chosen) ≤ N
       go chosen c l true q = leb-true _ _ q
       go chosen c l false q = let g = room-iff strict .0 (chosen, c, leb-false _ _ q) in absurd (omega arith)
 
       by : ((chosen : Log Op) → Choice added chosen → length (run s chosen) ≤ N)
-          → (b : Bool) → leb (spokenFor (w .session .rule) (state w .book) + needed (w .session .rule) (state w .book) job p ks) N ≡ b → spokenFor (w .session .rule) (state w .book) + needed (w .session .rule) (state w .book) job p ks ≤ N
+          → (b : Bool) → leb (placesTaken (w .session .rule) (state w .book) + needed (w .session .rule) (state w .book) job p ks) N ≡ b → placesTaken (w .session .rule) (state w .book) + needed (w .session .rule) (state w .book) job p ks ≤ N
       by f true q = leb-true _ _ q
       by f false q = let c = room-iff strict .1 (leb-false _ _ q) in let l = f (c .0) (c .1) in let g = c .2 in absurd (omega arith)
 

@@ -12,7 +12,7 @@ use lib.Seq.{length-sets, slice}
 use borrow.Author.Tests.{eqb-true, le-ltb, ltb-false, ne-eqb, not-false}
 use Rattle.lists.specs.Lists.{All, slice-end, slice-next}
 use Rattle.lists.specs.Truth.{oneIf}
-use Rattle.strict.specs.Book.{Book, heldBy, needsPlace, spokenFor, step}
+use Rattle.strict.specs.Book.{Book, heldBy, needsPlace, placesTaken, step}
 use Rattle.strict.specs.Commutativity.{Signature}
 use Rattle.strict.specs.Histories.{operation}
 use Rattle.strict.specs.Laws.Room.{room-operation}
@@ -56,7 +56,7 @@ module _ (w : World) (job sheet : ℕ) (p : Procedure) (a : Address) where
   first-done ks placed f =
       let m = state w .book in
       let h = first-none (heldBy (w .session .rule) m job p (keyFor a)) (firstHeld (w .session .rule) m job p ks) (f .unheld) .0 in
-      let room = room-free (needsPlace (w .session .rule) (m .table) (begun job p (keyFor a) (m .tiles))) (length (w .tiles)) (spokenFor (w .session .rule) m) (let x = f .places in omega arith) in
+      let room = room-free (needsPlace (w .session .rule) (m .table) (begun job p (keyFor a) (m .tiles))) (length (w .tiles)) (placesTaken (w .session .rule) m) (let x = f .places in omega arith) in
       let slot = ne-eqb (length (m .table)) (length (w .operations)) (λ e. let x = f .slots in omega arith) in
       let bytes = le-ltb (freeBytes w) (operationBytes w) (let x = f .bytes in omega arith) in
       let last : Passed (keyedRefusals w job p (keyFor a)) = (ap (λ o. refuseHeld o .applies) h, (room, (slot, (bytes, tt)))) in
@@ -73,7 +73,7 @@ module _ (w : World) (job sheet : ℕ) (p : Procedure) (k : ℕ) (full : length 
     ready-before : Serves w job
     ready-then : Serves then job
     held-then : firstHeld (then .session .rule) (state then .book) job p ks ≡ firstHeld (w .session .rule) (state w .book) job p (k ∷ ks)
-    room-then : spokenFor (then .session .rule) (state then .book) + needed (then .session .rule) (state then .book) job p ks ≡ spokenFor (w .session .rule) (state w .book) + needed (w .session .rule) (state w .book) job p (k ∷ ks)
+    room-then : placesTaken (then .session .rule) (state then .book) + needed (then .session .rule) (state then .book) job p ks ≡ placesTaken (w .session .rule) (state w .book) + needed (w .session .rule) (state w .book) job p (k ∷ ks)
     table-then : length (state then .book .table) ≡ length (state w .book .table) + 1
     places-then : length (then .tiles) ≡ length (w .tiles)
     slots-then : length (then .operations) ≡ length (w .operations)
@@ -89,7 +89,7 @@ module _ (w : World) (job sheet : ℕ) (p : Procedure) (k : ℕ) (full : length 
       let h = unrefused (refusals (length (w .tiles)) (length (w .operations)) (state w) e) (may .unrefused-by) in
       let held : heldBy (w .session .rule) m job p k ≡ none = not-held (heldBy (w .session .rule) m job p k) (h .1 .0) in
       let book : state then .book ≡ n = ap (λ (s : State). s .book) (carried-state w e full may) in
-      let grown : spokenFor (w .session .rule) n ≡ spokenFor (w .session .rule) m + oneIf (needsPlace (w .session .rule) (m .table) (begun job p k (m .tiles))) = room-operation (w .session .rule) m job sheet p k (may .sound-before .tables .ascending) in
+      let grown : placesTaken (w .session .rule) n ≡ placesTaken (w .session .rule) m + oneIf (needsPlace (w .session .rule) (m .table) (begun job p k (m .tiles))) = room-operation (w .session .rule) m job sheet p k (may .sound-before .tables .ascending) in
       let same : needed (w .session .rule) n job p ks ≡ needed (w .session .rule) m job p ks = needed-same (w .session .rule) m job sheet p k ks apart in
       let long : length bytes ≡ operationSize = record-size e (answerTo (state w) e) in
       let kept : length (then .journal) ≡ length (w .journal) = length-sets (w .journal) (w .session .journal) bytes in
@@ -99,7 +99,7 @@ module _ (w : World) (job sheet : ℕ) (p : Procedure) (k : ℕ) (full : length 
         ready-before = record { is-sound-there = is-sound w (may .sound-before); small = may .named .0; is-open = is-open };
         ready-then = record { is-sound-there = is-sound then (carried-sound w e full may); small = may .named .0; is-open = is-open };
         held-then = ap (λ x. firstHeld (w .session .rule) x job p ks) book ∙ first-held-same (w .session .rule) m job sheet p k ks apart ∙ ap (λ o. firstOf o (firstHeld (w .session .rule) m job p ks)) (sym held);
-        room-then = ap (λ (x : Book). spokenFor (w .session .rule) x + needed (w .session .rule) x job p ks) book ∙ omega arith;
+        room-then = ap (λ (x : Book). placesTaken (w .session .rule) x + needed (w .session .rule) x job p ks) book ∙ omega arith;
         table-then = ap (λ (x : Book). length (x .table)) book ∙ length-append (m .table) _;
         places-then = carried-places w e full may;
         slots-then = carried-slots w e full may;

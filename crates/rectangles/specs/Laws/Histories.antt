@@ -9,7 +9,7 @@ use native.Mathlib.Omega.{arith}
 use lib.Dec.{eqb, ltb}
 use borrow.Author.Tests.{le-ltb, lt-ltb, ltb-false, ltb-true, ne-eqb}
 use Rattle.lists.specs.Lists.{All}
-use Rattle.strict.specs.Book.{Admitted, bookAfter, heldBy, spokenFor}
+use Rattle.strict.specs.Book.{Admitted, bookAfter, heldBy, placesTaken}
 use Rattle.strict.specs.Histories.{Event, kept, opened, operation}
 use Rattle.strict.specs.Laws.Exactness.{back-past, last-goes, without-beyond}
 use Rattle.strict.specs.Laws.Following.{follows-strict}
@@ -95,11 +95,11 @@ module _ (s : List ℕ) (job sheet : ℕ) (p : Procedure) where
         (free, free-before Alone (bookAfter s h) job sheet p k ks (apart .0) (all-unheld (h ▷ operation job sheet p k) ks (a, o, free) o (apart .1) strict))
 
     -- and then so many more places are spoken for
-    pub spoken-all : (h : Log Event) (ks : List ℕ) → Apart ks → Ascending (bookAfter s h .tiles)
-        → spokenFor Alone (bookAfter s (withAll h job sheet p ks)) ≡ spokenFor Alone (bookAfter s h) + needed Alone (bookAfter s h) job p ks
-    spoken-all h [] apart up = omega arith
-    spoken-all h (k ∷ ks) apart up =
-        let ih = spoken-all (h ▷ operation job sheet p k) ks (apart .1) (ascending-apply (effect p) k (bookAfter s h .tiles) up) in
+    pub taken-all : (h : Log Event) (ks : List ℕ) → Apart ks → Ascending (bookAfter s h .tiles)
+        → placesTaken Alone (bookAfter s (withAll h job sheet p ks)) ≡ placesTaken Alone (bookAfter s h) + needed Alone (bookAfter s h) job p ks
+    taken-all h [] apart up = omega arith
+    taken-all h (k ∷ ks) apart up =
+        let ih = taken-all (h ▷ operation job sheet p k) ks (apart .1) (ascending-apply (effect p) k (bookAfter s h .tiles) up) in
         let grown = room-operation Alone (bookAfter s h) job sheet p k up in
         let same = needed-same Alone (bookAfter s h) job sheet p k ks (apart .0) in
         omega arith

@@ -8,7 +8,7 @@ use lib.Dec.{eqb, ltb}
 use lib.ListN.{length, length-append}
 use borrow.Author.Tests.{eqb-false, eqb-true, le-ltb, lt-ltb, ltb-false, ltb-true}
 use Rattle.lists.specs.Truth.{both, oneIf}
-use Rattle.strict.specs.Book.{Book, needsPlace, spokenFor, step}
+use Rattle.strict.specs.Book.{Book, needsPlace, placesTaken, step}
 use Rattle.strict.specs.Histories.{operation}
 use Rattle.strict.specs.Laws.Members.{ascending-apply}
 use Rattle.strict.specs.Laws.Room.{room-operation}
@@ -36,14 +36,14 @@ places-turn b n places more rest l ih = go (b && eqb n places) refl
     go false e = ih (room-left b places n e l)
 
 module _ (rule : Rule) (job sheet : ℕ) (p : Procedure) where
-  pub places-run-out : (places : ℕ) (ks : List ℕ) (m : Book) → Apart ks → Ascending (m .tiles) → spokenFor rule m ≤ places
-      → placesRunOut rule places m job sheet p ks ≡ ltb places (spokenFor rule m + needed rule m job p ks)
-  places-run-out places [] m apart asc l = sym (le-ltb places (spokenFor rule m + 0) (omega arith))
+  pub places-run-out : (places : ℕ) (ks : List ℕ) (m : Book) → Apart ks → Ascending (m .tiles) → placesTaken rule m ≤ places
+      → placesRunOut rule places m job sheet p ks ≡ ltb places (placesTaken rule m + needed rule m job p ks)
+  places-run-out places [] m apart asc l = sym (le-ltb places (placesTaken rule m + 0) (omega arith))
   places-run-out places (k ∷ ks) m apart asc l =
       let n = step m (operation job sheet p k) in
       let grown = room-operation rule m job sheet p k asc in
       let same = needed-same rule m job sheet p k ks (apart .0) in
-      places-turn (needsPlace rule (m .table) (begun job p k (m .tiles))) (spokenFor rule m) places (needed rule m job p ks) (placesRunOut rule places n job sheet p ks) l
+      places-turn (needsPlace rule (m .table) (begun job p k (m .tiles))) (placesTaken rule m) places (needed rule m job p ks) (placesRunOut rule places n job sheet p ks) l
       (λ f.
       places-run-out places ks n (apart .1) (ascending-apply (effect p) k (m .tiles) asc) (omega arith)
       ∙ ap (λ x. ltb places x) (omega arith))

@@ -8,9 +8,9 @@ use Prim.Native.Nat.{_*_, _+_, ℕ}
 use lib.Dec.{ltb}
 use lib.ListN.{getD, length}
 use Rattle.lists.specs.Truth.{oneIf}
-use Rattle.strict.specs.Book.{Book, heldBy, spokenFor}
+use Rattle.strict.specs.Book.{Book, heldBy, placesTaken}
 use Rattle.strict.specs.Commutativity.{Signature}
-use Rattle.strict.specs.Laws.Sheets.{held-sheetless, needs-sheetless, spoken-sheetless}
+use Rattle.strict.specs.Laws.Sheets.{held-sheetless, needs-sheetless, taken-sheetless}
 use Rattle.strict.specs.Operations.{begun}
 use Rattle.strict.specs.Sheets.{sheetlessBook, sheetlessBy}
 use Rattle.strict.specs.declared.Procedure.{Procedure}
@@ -55,7 +55,7 @@ module _ {w v : World} (alike : Alike w v) (job : ℕ) (p : Procedure) (r : Rect
   first-in x = firstHeld (x .rule) (x .book) job p ks
 
   abbrev taken-in : State → ℕ
-  taken-in x = spokenFor (x .rule) (x .book) + needed (x .rule) (x .book) job p ks
+  taken-in x = placesTaken (x .rule) (x .book) + needed (x .rule) (x .book) job p ks
 
   hold-without : (x : State) → sheetlessRefusal (refuseHeld (first-in x)) ≡ refuseHeld (first-in (sheetlessState x))
   hold-without x = hold-sheetless (first-in x) ∙ ap refuseHeld (first-held-sheetless (x .rule) (x .book) job p ks)
@@ -64,7 +64,7 @@ module _ {w v : World} (alike : Alike w v) (job : ℕ) (p : Procedure) (r : Rect
   hold = hold-without (state w) ∙ ap (λ x. refuseHeld (first-in x)) (alike .same-state) ∙ sym (hold-without (state v))
 
   taken-without : (x : State) → taken-in (sheetlessState x) ≡ taken-in x
-  taken-without x = ap₂ (λ m n. m + n) (spoken-sheetless (x .rule) (x .book)) (needed-sheetless (x .rule) (x .book) job p ks)
+  taken-without x = ap₂ (λ m n. m + n) (taken-sheetless (x .rule) (x .book)) (needed-sheetless (x .rule) (x .book) job p ks)
 
   taken : taken-in (state w) ≡ taken-in (state v)
   taken = sym (taken-without (state w)) ∙ ap taken-in (alike .same-state) ∙ taken-without (state v)

@@ -12,7 +12,7 @@ use lib.Seq.{length-take-le}
 use borrow.Author.Tests.{eq-eqb, eqb-false, eqb-true, le-ltb, lt-ltb, ltb-false, ltb-true, ne-eqb, not-true}
 use Rattle.lists.specs.Lists.{All}
 use Rattle.lists.specs.Truth.{and-both, both, never}
-use Rattle.strict.specs.Book.{deleted, heldBy, needsPlace, spokenFor}
+use Rattle.strict.specs.Book.{deleted, heldBy, needsPlace, placesTaken}
 use Rattle.strict.specs.Commutativity.{FirstHolder, Signature, holder, signatureOf, holds}
 use Rattle.strict.specs.Histories.{operation}
 use Rattle.strict.specs.Operations.{Op, begun, kind}
@@ -123,7 +123,7 @@ module _ (w : World) (job sheet : ℕ) (p : Procedure) (a : Address) (k : ℕ) (
 
   -- the four tests of the operation
   abbrev full : Bool
-  full = needsPlace (w .session .rule) (state w .book .table) (begun job p k (usedTiles w)) && eqb (spokenFor (w .session .rule) (state w .book)) (length (w .tiles))
+  full = needsPlace (w .session .rule) (state w .book .table) (begun job p k (usedTiles w)) && eqb (placesTaken (w .session .rule) (state w .book)) (length (w .tiles))
 
   abbrev slotless : Bool
   slotless = eqb (length (state w .book .table)) (length (w .operations))
@@ -219,9 +219,9 @@ module _ (w : World) (job sheet : ℕ) (p : Procedure) (a : Address) (k : ℕ) (
     room-by-job =
         let wants = place-wanted p (begun job p k (usedTiles w) .found) (deleted k (state w .book .table)) in
         let here : Placeless w job p k
-        ↔ ((needsPlace Together (state w .book .table) (begun job p k (usedTiles w)) ≡ true) × (spokenFor Together (state w .book) ≡ length (w .tiles))) =
+        ↔ ((needsPlace Together (state w .book .table) (begun job p k (usedTiles w)) ≡ true) × (placesTaken Together (state w .book) ≡ length (w .tiles))) =
         subst
-        (λ q. Placeless w job p k ↔ ((needsPlace q (state w .book .table) (begun job p k (usedTiles w)) ≡ true) × (spokenFor q (state w .book) ≡ length (w .tiles))))
+        (λ q. Placeless w job p k ↔ ((needsPlace q (state w .book .table) (begun job p k (usedTiles w)) ≡ true) × (placesTaken q (state w .book) ≡ length (w .tiles))))
         rule (λ c. c, λ c. c) in (
           λ e. let c = told-seven .0 e in
               let d = here .0 (c .1) in

@@ -10,7 +10,7 @@ use lib.Dec.{leb}
 use lib.ListN.{length}
 use borrow.Author.Tests.{leb-false, leb-true}
 use Rattle.lists.specs.Truth.{never, oneIf}
-use Rattle.strict.specs.Book.{bookAfter, heldBy, needsPlace, spokenFor, step}
+use Rattle.strict.specs.Book.{bookAfter, heldBy, needsPlace, placesTaken, step}
 use Rattle.strict.specs.Choices.{Choice}
 use Rattle.strict.specs.Histories.{Event, kept, opened, operation}
 use Rattle.strict.specs.Laws.Room.{room-operation}
@@ -64,9 +64,9 @@ module _ (s : List ℕ) (h : Log Event) (w : World) (asc : Ascending s) (r : Rea
       let free-there : heldBy Alone m job p k ≡ none = sym (ap₂ (λ x y. heldBy x y job p k) (r .by-rule) (r .book-there)) ∙ free in
       let exact = room-is-exact s (h ▷ operation job sheet p k) asc (r .admitted, is-open, free-there) (length (w .tiles)) in
       let grown = room-operation q (state w .book) job sheet p k (sound .tables .ascending) in
-      let same : spokenFor Alone (step m (operation job sheet p k)) ≡ spokenFor q (state w .book) + oneIf (needsPlace q (state w .book .table) new) =
-      ap₂ (λ x y. spokenFor x (step y (operation job sheet p k))) (sym (r .by-rule)) (sym (r .book-there)) ∙ grown in
-      let test = placeless-test (needsPlace q (state w .book .table) new) (spokenFor q (state w .book)) (length (w .tiles)) (sound .tables .room) in
+      let same : placesTaken Alone (step m (operation job sheet p k)) ≡ placesTaken q (state w .book) + oneIf (needsPlace q (state w .book .table) new) =
+      ap₂ (λ x y. placesTaken x (step y (operation job sheet p k))) (sym (r .by-rule)) (sym (r .book-there)) ∙ grown in
+      let test = placeless-test (needsPlace q (state w .book .table) new) (placesTaken q (state w .book)) (length (w .tiles)) (sound .tables .room) in
       (λ c. test .1 (let l = exact .0 c in omega arith), λ e. exact .1 (let l = test .0 e in omega arith))
 
   pub room-just : Strict Alone s added

@@ -10,10 +10,10 @@ use lib.Dec.{eqb, ltb}
 use lib.ListN.{getD, length, length-map, take}
 use lib.Seq.{length-sets, length-take-le}
 use Rattle.lists.specs.Lists.{All}
-use Rattle.strict.specs.Book.{Book, heldBy, needsPlace, spokenFor}
+use Rattle.strict.specs.Book.{Book, heldBy, needsPlace, placesTaken}
 use Rattle.strict.specs.Commutativity.{Signature}
 use Rattle.strict.specs.Histories.{Event, abort, commit, openJob, operation}
-use Rattle.strict.specs.Laws.Sheets.{held-sheetless, needs-sheetless, spoken-sheetless, step-sheetless}
+use Rattle.strict.specs.Laws.Sheets.{held-sheetless, needs-sheetless, taken-sheetless, step-sheetless}
 use Rattle.strict.specs.Operations.{Op, begun}
 use Rattle.strict.specs.Sheets.{sheetless, sheetlessBook, sheetlessBy, sheetlessEvent, sheetlessHistory}
 use Rattle.strict.specs.Strict.{Log, _▷_, empty}
@@ -21,7 +21,7 @@ use Rattle.strict.specs.declared.Procedure.{Procedure}
 use Rattle.strict.specs.declared.Rule.the-variants.{Alone}
 use Rattle.strict.specs.declared.Rule.{Rule}
 use Rattle.service.specs.Admission.{State, answerTo, openMarks, perform}
-use Rattle.service.specs.Calls.{concluded, fresh, ruledWorld, startCall, startRefusals}
+use Rattle.service.specs.Calls.{concluded, emptySession, fresh, ruledWorld, startCall, startRefusals}
 use Rattle.service.specs.Claims.{holderIn, sheetlessTold}
 use Rattle.service.specs.Extents.{extent, recordSize}
 use Rattle.service.specs.Journal.{encode, recordOf, ruleBytes}
@@ -86,7 +86,7 @@ journal-length : {r : Rule} {tiles : List ℕ} {count : ℕ} {operations journal
 unfolding startCall
 journal-length {r} {tiles} {count} {operations} {journal} (started e) = go (eqb (decided (startRefusals r tiles count operations journal) (bare 0) .number) 0)
   where
-    go : (b : Bool) → length (cond b (ruledWorld r tiles count operations journal) (world (fresh Alone 0) tiles operations journal) .journal) ≡ length journal
+    go : (b : Bool) → length (cond b (ruledWorld r tiles count operations journal) (world emptySession tiles operations journal) .journal) ≡ length journal
     go true = length-sets journal 0 (ruleBytes r)
     go false = refl
 journal-length (called {w = w} f c ok) =
@@ -159,11 +159,11 @@ module _ {w v : World} (alike : Alike w v) where
         ∙ sym (hold-sheetless (heldBy (v .session .rule) (state v .book) job p k) ∙ ap refuseHeld (held-sheetless (v .session .rule) (state v .book) job p k))
 
     abbrev full : State → ℕ → Bool
-    full x places = needsPlace (x .rule) (x .book .table) (begun job p k (x .book .tiles)) && eqb (spokenFor (x .rule) (x .book)) places
+    full x places = needsPlace (x .rule) (x .book .table) (begun job p k (x .book .tiles)) && eqb (placesTaken (x .rule) (x .book)) places
 
     full-sheetless : (x : State) (places : ℕ) → full (sheetlessState x) places ≡ full x places
     full-sheetless x places =
-        ap₂ (λ y n. y && eqb n places) (needs-sheetless (x .rule) (x .book .table) (begun job p k (x .book .tiles))) (spoken-sheetless (x .rule) (x .book))
+        ap₂ (λ y n. y && eqb n places) (needs-sheetless (x .rule) (x .book .table) (begun job p k (x .book .tiles))) (taken-sheetless (x .rule) (x .book))
 
     same-full : full (state w) (length (w .tiles)) ≡ full (state v) (length (v .tiles))
     same-full = sym (full-sheetless (state w) (length (w .tiles))) ∙ ap₂ full (alike .same-state) (alike .same-places) ∙ full-sheetless (state v) (length (v .tiles))

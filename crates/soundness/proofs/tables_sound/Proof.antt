@@ -46,14 +46,14 @@ is-settled-requires c κs =
 returns-5 : tie.Need-returns-5
 returns-5 c = part-fails _ _ _ 4 (test-fails (c .before .is-settled .ensures) (c .if5 .taken))
 
-count-besides-requires : tie.Need-count-besides-requires
-count-besides-requires c κs =
+count-spoken-requires : tie.Need-count-spoken-requires
+count-spoken-requires c κs =
     let c2 = c .before .before .before .before .before .before in
     let k = counts (c2 .before .before) in
     (tile-table _ _ _ k (test-passes (c2 .before .tiles-sound .ensures) (c2 .if2 .left)), k .operations-fit, omega (arith, k .operations-fit, k .few-operations))
 
 add-result : tie.Need-add-result
-add-result c = omega (arith, counts (c .before .before .before .before .before .before .before .before .before) .tiles-fit, c .count-besides .ensures .1)
+add-result c = omega (arith, counts (c .before .before .before .before .before .before .before .before .before) .tiles-fit, c .count-spoken .ensures .1)
 
 returns-6 : tie.Need-returns-6
 returns-6 c =
@@ -62,7 +62,7 @@ returns-6 c =
     let c3 = c4 .before .before in
     let c2 = c3 .before .before in
     let c1 = c2 .before .before in
-    rw (c .count-besides .ensures .0)
+    rw (c .count-spoken .ensures .0)
     (room-decides _ _ _
     (test-passes (c1 .before .counts-fit .ensures) (c1 .if1 .left))
     (test-passes (c2 .before .tiles-sound .ensures) (c2 .if2 .left))
@@ -84,6 +84,6 @@ tables-sound-spec =
     returns-4
     is-settled-requires
     returns-5
-    count-besides-requires
+    count-spoken-requires
     add-result
     returns-6)

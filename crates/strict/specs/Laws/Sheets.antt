@@ -7,7 +7,7 @@ use Prim.Native.Nat.{_+_, ℕ}
 use lib.Dec.{eqb}
 use lib.ListN.{length}
 use Rattle.lists.specs.Truth.{oneIf}
-use Rattle.strict.specs.Book.{Book, besides, bookAfter, counted, deleted, heldBy, needsPlace, others, recover, reserved, spokenFor, step}
+use Rattle.strict.specs.Book.{Book, bookAfter, counted, deleted, heldBy, needsPlace, others, placesTaken, recover, reserved, step}
 use Rattle.strict.specs.Commutativity.{Signature, holder, holds, signatureOf}
 use Rattle.strict.specs.Histories.{Event, abort, commit, mine, openJob, operation}
 use Rattle.strict.specs.Operations.{Op, begun, kind, ofSheet, undo}
@@ -48,9 +48,9 @@ pub needs-sheetless : (r : Rule) (us : List Op) (o : Op) → needsPlace r (map s
 needs-sheetless Alone us o = refl
 needs-sheetless Together us o = ap (λ b. eqb (kind (o .proc) (o .found)) 1 && not b) (deleted-sheetless (o .key) us)
 
-pub spoken-sheetless : (r : Rule) (m : Book) → spokenFor r (sheetlessBook m) ≡ spokenFor r m
-spoken-sheetless Alone m = ap (λ n. length (m .tiles) + n) (reserved-sheetless (m .table))
-spoken-sheetless Together m = ap (λ n. length (m .tiles) + n) (counted-sheetless (m .tiles) (m .table))
+pub taken-sheetless : (r : Rule) (m : Book) → placesTaken r (sheetlessBook m) ≡ placesTaken r m
+taken-sheetless Alone m = ap (λ n. length (m .tiles) + n) (reserved-sheetless (m .table))
+taken-sheetless Together m = ap (λ n. length (m .tiles) + n) (counted-sheetless (m .tiles) (m .table))
 
 -- WHAT AN EVENT DOES
 others-sheetless : (j : ℕ) (us : List Op) → others j (map sheetless us) ≡ map sheetless (others j us)

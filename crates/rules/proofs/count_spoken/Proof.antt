@@ -1,12 +1,12 @@
--- `rules::count_besides` meets its contract: by the rule
+-- `rules::count_spoken` meets its contract: by the rule
 use mathlib.Core.Path.{_∙_, sym}
 use native.Mathlib.Omega.{arith}
 use lib.ListN.{take}
 use borrow.Author.Needs.{needs}
 use denote.Ref.{now}
 use Rattle.entries.specs.Laws.{reserved-three, three-few}
-use Rattle.rules.proofs.count_besides.Statement.{statement}
-use Rattle.rules.proofs.count_besides.Tie as tie
+use Rattle.rules.proofs.count_spoken.Statement.{statement}
+use Rattle.rules.proofs.count_spoken.Tie as tie
 
 enum-told : tie.Need-enum-told
 enum-told c = search needs
@@ -31,8 +31,8 @@ returns-2 c =
     let s = c .before .before .before .before .before in
     (rw (c .before .enum-told2 .given .1) (c .count-absent .ensures .0), omega (arith, c .count-absent .ensures .1, s .pre .2))
 
-pub count-besides-spec : {M : Type 1} → statement M
-count-besides-spec =
+pub count-spoken-spec : {M : Type 1} → statement M
+count-spoken-spec =
     tie.close
     (tie.spec
     enum-told
