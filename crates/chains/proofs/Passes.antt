@@ -10,11 +10,13 @@ use lib.Seq.{slice}
 use borrow.Author.Tests.{eqb-true, not-true}
 use Rattle.lists.specs.Lists.{allTrue, slice-next}
 use Rattle.lists.specs.Truth.{both, oneIf}
-use Rattle.strict.specs.Book.{counted, deleted}
+use Rattle.strict.specs.Book.{countedOf, deleted}
 use Rattle.strict.specs.Tiles.{member}
 use Rattle.strict.specs.declared.Rule.the-variants.{Together}
 use Rattle.service.specs.Entry.{jobIn, keyIn, kindIn, opIn}
 use Rattle.service.specs.Sound.{asLeft, changing, mayStand, seenIn, settledB}
+use Rattle.layout.specs.Whose.{meant}
+use Rattle.layout.specs.declared.Whose.{Whose}
 use Rattle.entries.specs.Laws.{decoded}
 use Rattle.settling.specs.Tests.{settledAt}
 use Rattle.chains.specs.Chains.{followed, linked, passed}
@@ -28,15 +30,15 @@ isDelete e = eqb (kindIn e) 3
 abbrev pub deletedIn : ℕ → List ℕ → Bool
 deletedIn key es = deleted key (map opIn es)
 
-abbrev pub countedIn : List ℕ → List ℕ → ℕ
-countedIn t es = counted t (map opIn es)
+abbrev pub countedIn : Whose → List ℕ → List ℕ → ℕ
+countedIn whose t es = countedOf (meant whose) t (map opIn es)
 
 deleted-first : (key e : ℕ) (es : List ℕ) → deletedIn key (e ∷ es) ≡ ((isDelete e && eqb key (keyIn e)) || deletedIn key es)
 deleted-first key e es = rw (decoded (kindIn e) .three)
 
-counted-first : (t : List ℕ) (e : ℕ) (es : List ℕ)
-    → countedIn t (e ∷ es) ≡ oneIf (isDelete e && not (member (keyIn e) t || deletedIn (keyIn e) es)) + countedIn t es
-counted-first t e es = rw (decoded (kindIn e) .three)
+counted-first : (whose : Whose) (t : List ℕ) (e : ℕ) (es : List ℕ)
+    → countedIn whose t (e ∷ es) ≡ oneIf (meant whose (opIn e) && (isDelete e && not (member (keyIn e) t || deletedIn (keyIn e) es))) + countedIn whose t es
+counted-first whose t e es = rw (decoded (kindIn e) .three)
 
 pub deleted-passes : (key f : ℕ) (fs : List ℕ) → passedBy isDelete key f ≡ true → deletedIn key (f ∷ fs) ≡ deletedIn key fs
 deleted-passes key f fs h = deleted-first key f fs ∙ rw (not-true (isDelete f && eqb key (keyIn f)) h)
@@ -98,18 +100,21 @@ module _ (l : List ℕ) (n i : ℕ) (fits : n ≤ length l) (inside : i < n) whe
   deleted-turn key h =
       ap (deletedIn key) (slice-next l n i fits inside) ∙ deleted-first key (getD l i 0) (slice (i + 1) n l) ∙ ap (λ b. b || deletedIn key (slice (i + 1) n l)) h
 
-  counted-turn : (t : List ℕ) {b : Bool} → isDelete (getD l i 0) ≡ b
-      → countedIn t (slice i n l) ≡ oneIf (b && not (member (keyIn (getD l i 0)) t || deletedIn (keyIn (getD l i 0)) (slice (i + 1) n l))) + countedIn t (slice (i + 1) n l)
-  counted-turn t h = ap (countedIn t) (slice-next l n i fits inside) ∙ counted-first t (getD l i 0) (slice (i + 1) n l) ∙ rw h
+  counted-turn : (whose : Whose) (t : List ℕ) {b : Bool} → isDelete (getD l i 0) ≡ b
+      → countedIn whose t (slice i n l)
+      ≡ oneIf (meant whose (opIn (getD l i 0)) && (b && not (member (keyIn (getD l i 0)) t || deletedIn (keyIn (getD l i 0)) (slice (i + 1) n l))))
+      + countedIn whose t (slice (i + 1) n l)
+  counted-turn whose t h = ap (countedIn whose t) (slice-next l n i fits inside) ∙ counted-first whose t (getD l i 0) (slice (i + 1) n l) ∙ rw h
 
-  pub counted-same : (t : List ℕ) {absent : ℕ} → isDelete (getD l i 0) ≡ false → absent ≡ countedIn t (slice (i + 1) n l) → absent ≡ countedIn t (slice i n l)
-  counted-same t h so-far = omega (arith, counted-turn t h)
+  pub counted-same : (whose : Whose) (t : List ℕ) {absent : ℕ} → isDelete (getD l i 0) ≡ false → absent ≡ countedIn whose t (slice (i + 1) n l)
+      → absent ≡ countedIn whose t (slice i n l)
+  counted-same whose t h so-far = let z = rw (and-false (meant whose (opIn (getD l i 0)))) at (counted-turn whose t h) in omega arith
 
   -- one more if its tile is absent and none from the nearest delete on has it, since none before has
-  pub counted-more : (t : List ℕ) (from : ℕ) {absent one : ℕ} → isDelete (getD l i 0) ≡ true → Reaches isDelete (keyIn (getD l i 0)) l n (i + 1) from
-      → one ≡ oneIf (not (member (keyIn (getD l i 0)) t || deletedIn (keyIn (getD l i 0)) (slice from n l))) → absent ≡ countedIn t (slice (i + 1) n l)
-      → absent + one ≡ countedIn t (slice i n l)
-  counted-more t from h near here so-far =
+  pub counted-more : (whose : Whose) (t : List ℕ) (from : ℕ) {absent one : ℕ} → isDelete (getD l i 0) ≡ true → Reaches isDelete (keyIn (getD l i 0)) l n (i + 1) from
+      → one ≡ oneIf (meant whose (opIn (getD l i 0)) && not (member (keyIn (getD l i 0)) t || deletedIn (keyIn (getD l i 0)) (slice from n l)))
+      → absent ≡ countedIn whose t (slice (i + 1) n l) → absent + one ≡ countedIn whose t (slice i n l)
+  counted-more whose t from h near here so-far =
       let key = keyIn (getD l i 0) in
       let later = same-from (deletedIn key) (passedBy isDelete key) (deleted-passes key) l n from fits (near .high) (i + 1) (near .low) (near .free) in
-      omega (arith, counted-turn t h, here ∙ ap (λ b. oneIf (not (member key t || b))) (sym later))
+      omega (arith, counted-turn whose t h, here ∙ ap (λ b. oneIf (meant whose (opIn (getD l i 0)) && not (member key t || b))) (sym later))

@@ -7,15 +7,17 @@ ghost use lib.Dec.{eqb};
 ghost use lib.ListN.{getD, length, take};
 ghost use lib.Seq.{slice};
 ghost use Rattle.lists.specs.Truth.{oneIf};
-ghost use Rattle.strict.specs.Book.{counted, deleted};
+ghost use Rattle.strict.specs.Book.{countedOf, deleted};
 ghost use Rattle.strict.specs.Tiles.{member};
 ghost use Rattle.strict.specs.declared.Rule.the-variants.{Together};
 ghost use Rattle.service.specs.Entry.{keyIn, kindIn, opIn};
 ghost use Rattle.service.specs.Sound.{settledB};
 ghost use Rattle.search.specs.Table.{TileTable};
+ghost use Rattle.layout.specs.Whose.{meant};
 ghost use Rattle.filter.specs.Filter.{elsewhere};
 ghost use Rattle.settling.specs.Tests.{settledAt};
 ghost use Rattle.chains.specs.Chains.{followed, linked, nearSlot, passed, startOf};
+use layout::Whose;
 use service::Session;
 
 // From where a later entry is to be looked for: from the nearest that its slot has, and from the end if it has none.
@@ -68,18 +70,24 @@ pub fn is_deleted(operations: &[u64], count: usize, key: u32) -> bool
     deleted_from(operations, 0, count, key)
 }
 
-// 1 for a tile that is absent and that no entry from `from` on deleted, 0 for any other.
+// 1 for an entry that is meant, where its tile is absent and no entry from `from` on deleted it, 0 for any other.
 fn last_absent(
     tiles: &[u32],
     used: usize,
     operations: &[u64],
     from: usize,
     count: usize,
-    key: u32,
+    e: u64,
+    whose: Whose,
 ) -> usize
     requires { ⌜ TileTable (now tiles) used × (from ≤ count) × (count ≤ length (now operations)) ⌝ }
-    ensures { λ r. ⌜ (r ≡ oneIf (not (member key (take used (now (tiles .entry))) || deleted key (map opIn (slice from count (now (operations .entry))))))) × (r ≤ 1) ⌝ }
+    ensures { λ r. ⌜ (r ≡ oneIf (meant whose (opIn e)
+        && not (member (keyIn e) (take used (now (tiles .entry))) || deleted (keyIn e) (map opIn (slice from count (now (operations .entry))))))) × (r ≤ 1) ⌝ }
 {
+    if !layout::is_meant(e, whose) {
+        return 0;
+    }
+    let key = layout::key_in(e);
     if tiles::is_present(tiles, used, key) {
         return 0;
     }
@@ -89,11 +97,17 @@ fn last_absent(
     1
 }
 
-// How many absent tiles have an unfinished delete, each counted once, at its last. From the last entry to the first, with the nearest later delete of each
-// slot: before it none deleted a tile of that slot.
-pub fn count_absent(tiles: &[u32], used: usize, operations: &[u64], count: usize) -> usize
+// How many absent tiles have an unfinished delete, each counted once, at its last, where that is meant. From the last entry to the first, with the nearest
+// later delete of each slot: before it none deleted a tile of that slot.
+pub fn count_absent(
+    tiles: &[u32],
+    used: usize,
+    operations: &[u64],
+    count: usize,
+    whose: Whose,
+) -> usize
     requires { ⌜ TileTable (now tiles) used × (count ≤ length (now operations)) × (count ≤ 1024) ⌝ }
-    ensures { λ r. ⌜ (r ≡ counted (take used (now (tiles .entry))) (map opIn (take count (now (operations .entry))))) × (r ≤ count) ⌝ }
+    ensures { λ r. ⌜ (r ≡ countedOf (meant whose) (take used (now (tiles .entry))) (map opIn (take count (now (operations .entry))))) × (r ≤ count) ⌝ }
 {
     let mut deletes = [0u16; 16384];
     let mut absent: usize = 0;
@@ -104,15 +118,15 @@ pub fn count_absent(tiles: &[u32], used: usize, operations: &[u64], count: usize
         if layout::kind_in(e) != 3 {
             continue;
         }
-        let key = layout::key_in(e);
-        let s = slot_of(key);
+        let s = slot_of(layout::key_in(e));
         absent += last_absent(
             tiles,
             used,
             operations,
             start_of(deletes[s], count),
             count,
-            key,
+            e,
+            whose,
         );
         deletes[s] = (i + 1) as u16;
     }

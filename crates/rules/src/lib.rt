@@ -3,13 +3,15 @@ ghost use mathlib.Core.List.{map};
 ghost use mathlib.Core.Path.{_≡_};
 ghost use Prim.Native.Nat.{_≤_};
 ghost use lib.ListN.{length, take};
-ghost use Rattle.strict.specs.Book.{spokenBy};
+ghost use Rattle.strict.specs.Book.{spokenOf};
 ghost use Rattle.service.specs.Entry.{opIn};
 ghost use Rattle.service.specs.Sound.{settledB};
 ghost use Rattle.search.specs.Table.{TileTable};
+ghost use Rattle.layout.specs.Whose.{meant};
 ghost use Rattle.entries.specs.Table.{firstPlace};
 ghost use Rattle.rules.specs.Rules.{holdsBy, wantsPlace};
 use entries::Holder;
+use layout::Whose;
 use service::Session;
 use strict::Rule;
 
@@ -25,18 +27,18 @@ pub fn is_settled(session: Session, tiles: &[u32], operations: &[u64]) -> bool
     }
 }
 
-// How many tile places are spoken for besides those of the tiles.
-pub fn count_spoken(session: Session, tiles: &[u32], operations: &[u64]) -> usize
+// How many tile places the unfinished deletes that are meant speak for.
+pub fn count_spoken(session: Session, tiles: &[u32], operations: &[u64], whose: Whose) -> usize
     requires { ⌜ TileTable (now tiles) (session .tiles) × (session .operations ≤ length (now operations)) × (session .operations ≤ 1024) ⌝ }
-    ensures { λ r. ⌜ (r ≡ spokenBy (session .rule) (take (session .tiles) (now (tiles .entry))) (map opIn (take (session .operations) (now (operations .entry)))))
+    ensures { λ r. ⌜ (r ≡ spokenOf (session .rule) (meant whose) (take (session .tiles) (now (tiles .entry))) (map opIn (take (session .operations) (now (operations .entry)))))
         × (r ≤ 1024) ⌝ }
 {
     let rule = session.rule;
     let count = session.tiles;
     let used = session.operations;
     match rule {
-        Rule::Alone => entries::count_reserved(operations, used),
-        Rule::Together => chains::count_absent(tiles, count, operations, used),
+        Rule::Alone => entries::count_reserved(operations, used, whose),
+        Rule::Together => chains::count_absent(tiles, count, operations, used, whose),
     }
 }
 

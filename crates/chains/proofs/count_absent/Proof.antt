@@ -16,11 +16,11 @@ use Rattle.chains.proofs.count_absent.Statement.{statement}
 use Rattle.chains.proofs.count_absent.Tie as tie
 
 abbrev Inv-loop : tie.InvT-loop
-Inv-loop tiles used operations count deletes₀ absent₀ i₀ deletes absent i =
-    (i ≤ count) × (length deletes ≡ 16384) × (absent + i ≤ count) × Nearest isDelete operations count deletes i × (absent ≡ countedIn (take used tiles) (slice i count operations))
+Inv-loop tiles used operations count whose deletes₀ absent₀ i₀ deletes absent i =
+    (i ≤ count) × (length deletes ≡ 16384) × (absent + i ≤ count) × Nearest isDelete operations count deletes i × (absent ≡ countedIn whose (take used tiles) (slice i count operations))
 
 abbrev μ-loop : tie.MeasureT-loop
-μ-loop tiles used operations count deletes₀ absent₀ i₀ deletes absent i = i
+μ-loop tiles used operations count whose deletes₀ absent₀ i₀ deletes absent i = i
 
 -- before the nearest none deleted the tile of the entry that is looked at
 reaches : (c : tie.After-start-of Inv-loop μ-loop) →
@@ -41,7 +41,7 @@ loop-holds c =
       length-replicate {0} {A = ℕ} 16384 0,
       omega arith,
       near-start isDelete l n,
-      ap (countedIn (take (s .args .used) (now (s .args .tiles)))) (sym (slice-end l n n (omega arith))),
+      ap (countedIn (s .args .whose) (take (s .args .used) (now (s .args .tiles)))) (sym (slice-end l n n (omega arith))),
     )
 
 sub-i : tie.Need-sub-i Inv-loop μ-loop
@@ -71,7 +71,7 @@ loop-again c =
       l .inv .1,
       omega arith,
       near-passed isDelete o n (l .i - 1) (s .pre .1) (omega arith) (l .deletes) kind (rw back (l .inv .3)),
-      counted-same o n (l .i - 1) (s .pre .1) (omega arith) _ kind (rw back (l .inv .4)),
+      counted-same o n (l .i - 1) (s .pre .1) (omega arith) (s .args .whose) _ kind (rw back (l .inv .4)),
     )
 
 key-in-requires : tie.Need-key-in-requires Inv-loop μ-loop
@@ -127,7 +127,7 @@ loop-again-2 c =
       length-set (l .deletes) _ _ ∙ l .inv .1,
       omega arith,
       near-recorded isDelete o n (l .i - 1) (s .pre .1) (omega arith) (l .deletes) (h .result) (h .ensures .0 ∙ ap nearSlot key) inside (rw back (l .inv .3)),
-      counted-more o n (l .i - 1) (s .pre .1) (omega arith) _ (c .before .start-of .result) kind (reaches (c .before)) (rw key at (c .last-absent .ensures .0)) (rw back (l .inv .4)),
+      counted-more o n (l .i - 1) (s .pre .1) (omega arith) (s .args .whose) _ (c .before .start-of .result) kind (reaches (c .before)) (c .last-absent .ensures .0) (rw back (l .inv .4)),
     )
 
 returns : tie.Need-returns Inv-loop μ-loop

@@ -24,7 +24,7 @@ returns : tie.Need-returns
 returns c =
     let s = c .before .before .before .before .before in
     let es = take (s .args .session .operations) (now (s .args .operations)) in
-    (rw (c .before .enum-told .given .1) (c .count-reserved .ensures ∙ sym (reserved-three es)), omega (arith, c .count-reserved .ensures, three-few (now (s .args .operations)) (s .args .session .operations) (s .pre .1), s .pre .2))
+    (rw (c .before .enum-told .given .1) (c .count-reserved .ensures ∙ sym (reserved-three (s .args .whose) es)), omega (arith, c .count-reserved .ensures, three-few (s .args .whose) (now (s .args .operations)) (s .args .session .operations) (s .pre .1), s .pre .2))
 
 returns-2 : tie.Need-returns-2
 returns-2 c =

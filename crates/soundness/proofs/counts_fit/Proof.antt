@@ -10,7 +10,7 @@ use Rattle.soundness.proofs.counts_fit.Tie as tie
 use Rattle.soundness.specs.Tests.{countTests}
 
 abbrev tests : tie.Start → List Bool
-tests c = countTests (c .args .session) (now (c .args .tiles)) (now (c .args .operations))
+tests c = countTests (c .args .count) (c .args .used) (now (c .args .tiles)) (now (c .args .operations))
 
 returns : tie.Need-returns
 returns c = sym (fails (tests (c .before)) 0 (lt-leb _ _ (c .if1 .taken)))
@@ -25,12 +25,11 @@ returns-4 : tie.Need-returns-4
 returns-4 c = sym (fails (tests (c .before .before .before .before)) 3 (lt-leb _ _ (c .if4 .taken)))
 
 returns-5 : tie.Need-returns-5
-returns-5 c = sym (fails (tests (c .before .before .before .before .before .before)) 4 (lt-leb _ _ (c .if5 .taken)))
+returns-5 c = sym (fails (tests (c .before .before .before .before .before)) 4 (lt-leb _ _ (c .if5 .taken)))
 
 returns-6 : tie.Need-returns-6
 returns-6 c =
-    let c5 = c .before in
-    let c4 = c5 .before .before in
+    let c4 = c .before in
     let c3 = c4 .before in
     let c2 = c3 .before in
     rw (
@@ -38,7 +37,7 @@ returns-6 c =
       le-leb _ _ (c2 .if2 .left),
       le-leb _ _ (c3 .if3 .left),
       le-leb _ _ (c4 .if4 .left),
-      le-leb _ _ (c5 .if5 .left),
+      le-leb _ _ (c .if5 .left),
     ) (sym (and-true _))
 
 pub counts-fit-spec : {M : Type 1} → statement M

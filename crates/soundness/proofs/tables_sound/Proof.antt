@@ -1,10 +1,12 @@
 -- `soundness::tables_sound` meets its contract: each call computes a part of the test, and what the parts before it say is what it requires
+use mathlib.Core.Path.{_∙_}
+use Prim.Native.Nat.{_≤_}
 use native.Mathlib.Omega.{arith}
 use borrow.Author.Needs.{needs}
 use borrow.Author.Tests.{not-false}
 use denote.Ref.{now}
 use Rattle.lists.specs.Truth.{test-fails, test-passes}
-use Rattle.soundness.proofs.Laws.{Counted, counted, part-fails, room-decides, tile-table}
+use Rattle.soundness.proofs.Laws.{Counted, counted, keys-valid, last-decides, part-fails, tile-table}
 use Rattle.soundness.proofs.tables_sound.Statement.{statement}
 use Rattle.soundness.proofs.tables_sound.Tie as tie
 
@@ -46,14 +48,14 @@ is-settled-requires c κs =
 returns-5 : tie.Need-returns-5
 returns-5 c = part-fails _ _ _ 4 (test-fails (c .before .is-settled .ensures) (c .if5 .taken))
 
-count-spoken-requires : tie.Need-count-spoken-requires
-count-spoken-requires c κs =
+counts-fresh-requires : tie.Need-counts-fresh-requires
+counts-fresh-requires c κs =
     let c2 = c .before .before .before .before .before .before in
     let k = counts (c2 .before .before) in
-    (tile-table _ _ _ k (test-passes (c2 .before .tiles-sound .ensures) (c2 .if2 .left)), k .operations-fit, omega (arith, k .operations-fit, k .few-operations))
-
-add-result : tie.Need-add-result
-add-result c = omega (arith, counts (c .before .before .before .before .before .before .before .before .before) .tiles-fit, c .count-spoken .ensures .1)
+    let tiles = test-passes (c2 .before .tiles-sound .ensures) (c2 .if2 .left) in
+    let a = c2 .before .before .before .before .before .before .args in
+    let few : a .session .operations ≤ 1024 = omega (arith, k .operations-fit, k .few-operations) in
+    (tile-table _ _ _ k tiles, keys-valid (a .session) (now (a .tiles)) (now (a .operations)) tiles, k .operations-fit, few, omega (arith, k .tiles-fit, k .few-tiles))
 
 returns-6 : tie.Need-returns-6
 returns-6 c =
@@ -62,13 +64,13 @@ returns-6 c =
     let c3 = c4 .before .before in
     let c2 = c3 .before .before in
     let c1 = c2 .before .before in
-    rw (c .count-spoken .ensures .0)
-    (room-decides _ _ _
+    c .counts-fresh .ensures
+    ∙ last-decides _ _ _
     (test-passes (c1 .before .counts-fit .ensures) (c1 .if1 .left))
     (test-passes (c2 .before .tiles-sound .ensures) (c2 .if2 .left))
     (test-passes (c3 .before .entries-fit .ensures) (c3 .if3 .left))
     (test-passes (c4 .before .operations-clear .ensures) (c4 .if4 .left))
-    (rw (← c5 .before .is-settled .ensures) (not-false _ (c5 .if5 .left))))
+    (rw (← c5 .before .is-settled .ensures) (not-false _ (c5 .if5 .left)))
 
 pub tables-sound-spec : {M : Type 1} → statement M
 tables-sound-spec =
@@ -84,6 +86,5 @@ tables-sound-spec =
     returns-4
     is-settled-requires
     returns-5
-    count-spoken-requires
-    add-result
+    counts-fresh-requires
     returns-6)
