@@ -2,27 +2,23 @@
 use mathlib.Core.Bool.{Bool, _&&_, cond, false, true}
 use mathlib.Core.List.{List, map}
 use mathlib.Core.Option.{Option, none, some}
-use mathlib.Core.Path.{_∙_, _≡_, ap, refl, subst, sym}
+use mathlib.Core.Path.{_∙_, _≡_, ap₂, refl, subst, sym}
 use Prim.Native.Nat.{_+_, _≤_, ℕ}
 use native.Mathlib.Omega.{arith}
 use lib.Dec.{eqb}
 use lib.ListN.{length, length-map}
 use lib.Seq.{length-take-le}
-use Rattle.entries.specs.Laws.{reserved-three}
-use Rattle.entries.specs.Table.{EntryTable, countThree}
+use Rattle.entries.specs.Table.{EntryTable}
 use Rattle.service.specs.Admission.{State}
 use Rattle.service.specs.Entry.{opIn}
 use Rattle.service.specs.Laws.Storing.{padded-zeros}
 use Rattle.service.specs.Sound.{Tabled}
 use Rattle.service.specs.World.{World, state, usedOperations, usedTiles}
-use Rattle.strict.specs.Book.{counted, heldBy, needsPlace, placesTaken, reserved, spokenBy}
+use Rattle.strict.specs.Book.{counted, heldBy, needsPlace, placesTaken}
 use Rattle.strict.specs.Commutativity.{Signature}
-use Rattle.strict.specs.Laws.Counted.{counted-few}
 use Rattle.strict.specs.Laws.Room.{room-either}
-use Rattle.strict.specs.Operations.{Op, begun}
+use Rattle.strict.specs.Operations.{begun}
 use Rattle.strict.specs.declared.Procedure.{Procedure}
-use Rattle.strict.specs.declared.Rule.{Rule}
-use Rattle.strict.specs.declared.Rule.the-variants.{Alone, Together}
 use Rattle.search.specs.Laws.{zeros-table}
 use Rattle.search.specs.Table.{TileTable}
 use Rattle.tiles.specs.Table.{spotOf}
@@ -30,10 +26,6 @@ use Rattle.tiles.specs.declared.Spot.{Spot}
 use Rattle.admission.specs.Verdicts.{byHolder, verdictOf}
 use Rattle.admission.specs.declared.Verdict.the-variants.{Admitted, Held, NoOperationRoom, NoTileRoom}
 use Rattle.admission.specs.declared.Verdict.{Verdict}
-
-spoken-few : (r : Rule) (t : List ℕ) (us : List Op) → spokenBy r t us ≤ reserved us
-spoken-few Alone t us = omega arith
-spoken-few Together t us = counted-few t us
 
 module _ (w : World) (o : Tabled w) where
   pub tile-table : TileTable (w .tiles) (w .session .tiles)
@@ -48,14 +40,9 @@ module _ (w : World) (o : Tabled w) where
   pub operations-count : length (map opIn (usedOperations w)) ≡ w .session .operations
   operations-count = length-map (usedOperations w) opIn ∙ length-take-le (w .session .operations) (w .operations) (o .operations-fit)
 
-  -- the places that are spoken for, as the code counts them
-  pub places-taken : placesTaken (w .session .rule) (state w .book)
-      ≡ w .session .tiles + spokenBy (w .session .rule) (usedTiles w) (map opIn (usedOperations w))
-  places-taken = ap (λ n. n + spokenBy (w .session .rule) (usedTiles w) (map opIn (usedOperations w))) tiles-count
-
-  -- by either rule no more than the tiles and the entries of kind 3
-  pub few-taken : placesTaken (w .session .rule) (state w .book) ≤ w .session .tiles + countThree (usedOperations w)
-  few-taken = omega (arith, places-taken, spoken-few (w .session .rule) (usedTiles w) (map opIn (usedOperations w)), reserved-three (usedOperations w))
+  -- the places that are taken, by the counts that the session holds
+  pub places-taken : placesTaken (w .session .rule) (state w .book) ≡ w .session .tiles + w .session .spoken
+  places-taken = ap₂ (λ m n. m + n) tiles-count (sym (o .spoken-counted))
 
   -- there is room for the tiles with those that are counted, whichever the rule
   pub room-there : length (usedTiles w) + counted (usedTiles w) (map opIn (usedOperations w)) ≤ length (w .tiles)

@@ -60,26 +60,18 @@ pub fn answer(procedure: Procedure, found: bool) -> bool
     }
 }
 
-// Whether an operation of this kind on the tile `key` needs a tile place and all are spoken for. By either rule no more are than the tiles and the deletes,
-// which are soon counted: only where these take all places the rule is asked.
+// Whether an operation of this kind on the tile `key` needs a tile place and all are taken, by the counts that the session holds.
 fn lacks_place(session: Session, tiles: &[u32], operations: &[u64], kind: usize, key: u32) -> bool
     requires { ⌜ Tabled (world session (now tiles) (now operations) []) ⌝ }
     ensures { λ r. ⌜ r ≡ (wantsPlace (session .rule) (state (world session (now (tiles .entry)) (now (operations .entry)) []) .book .table) kind key
         && eqb (placesTaken (session .rule) (state (world session (now (tiles .entry)) (now (operations .entry)) []) .book)) (length (now (tiles .entry)))) ⌝ }
 {
     let rule = session.rule;
-    let count = session.tiles;
     let used = session.operations;
-    if kind != 1 {
+    if session.tiles + session.spoken < tiles.len() {
         return false;
     }
-    if count + entries::count_reserved(operations, used) < tiles.len() {
-        return false;
-    }
-    if !rules::needs_place(rule, operations, used, kind, key) {
-        return false;
-    }
-    count + rules::count_spoken(session, tiles, operations) == tiles.len()
+    rules::needs_place(rule, operations, used, kind, key)
 }
 
 // Judges an operation and writes nothing: first the holder, then tile room, then operation room.

@@ -139,7 +139,7 @@ fn lacking(
     let count = session.tiles;
     let used = session.operations;
     let written = session.journal;
-    if tiles.len() < count + rules::count_spoken(session, tiles, operations) + need {
+    if tiles.len() < count + session.spoken + need {
         return Reply::NoTileRoom;
     }
     if operations.len() < used + n {

@@ -1,5 +1,5 @@
 -- `judging::lacking` meets its contract: each room by its count
-use mathlib.Core.Path.{_∙_, _≡_, ap, sym}
+use mathlib.Core.Path.{_≡_}
 use Prim.Native.Nat.{_+_, _<_, _≤_}
 use native.Mathlib.Omega.{arith}
 use lib.ListN.{length}
@@ -7,43 +7,36 @@ use borrow.Author.Needs.{needs}
 use denote.Ref.{now}
 use Rattle.strict.specs.Book.{placesTaken}
 use Rattle.service.specs.World.{World, state, world}
-use Rattle.admission.specs.Laws.{operations-count, places-taken, tile-table}
+use Rattle.admission.specs.Laws.{operations-count, places-taken}
 use Rattle.judging.specs.Laws.{no-bytes, no-places, no-slots, room-enough}
 use Rattle.judging.proofs.lacking.Statement.{statement}
 use Rattle.judging.proofs.lacking.Tie as tie
 
 -- what the function was given
-abbrev given : tie.After-count-spoken → World
+abbrev given : tie.After-struct-known → World
 given c =
     let a = c .before .before .before .before .args in
     world (a .session) (now (a .tiles)) (now (a .operations)) (now (a .journal))
 
-record Known (c : tie.After-count-spoken) : Type 0 where
-  spoken : placesTaken (given c .session .rule) (state (given c) .book) ≡ given c .session .tiles + c .count-spoken .result
+record Known (c : tie.After-struct-known) : Type 0 where
+  taken : placesTaken (given c .session .rule) (state (given c) .book) ≡ given c .session .tiles + given c .session .spoken
   used : length (state (given c) .book .table) ≡ given c .session .operations
-  room : given c .session .tiles + c .count-spoken .result ≤ length (given c .tiles)
+  room : given c .session .tiles + given c .session .spoken ≤ length (given c .tiles)
   few : length (given c .tiles) ≤ 4096
   written : given c .session .journal ≤ length (given c .journal)
 
-known : (c : tie.After-count-spoken) → Known c
+known : (c : tie.After-struct-known) → Known c
 known c =
     let o = c .before .before .before .before .pre .0 in
     let t = o .tables in
-    let e = places-taken (given c) t ∙ ap (λ n. given c .session .tiles + n) (sym (c .count-spoken .ensures .0)) in
+    let e = places-taken (given c) t in
     record {
-      spoken = e;
+      taken = e;
       used = operations-count (given c) t;
       room = omega (arith, t .room, e);
       few = t .few-tiles;
       written = o .journal-fits;
     }
-
-count-spoken-requires : tie.Need-count-spoken-requires
-count-spoken-requires c κs =
-    let s = c .before .before .before in
-    let t = s .pre .0 .tables in
-    let few : s .args .session .operations ≤ 1024 = omega (arith, t .operations-fit, t .few-operations) in
-    (tile-table (world (s .args .session) (now (s .args .tiles)) (now (s .args .operations)) (now (s .args .journal))) t, t .operations-fit, few)
 
 add-if1 : tie.Need-add-if1
 add-if1 c = let k = known c in omega arith
@@ -113,7 +106,6 @@ pub lacking-spec : {M : Type 1} → statement M
 lacking-spec =
     tie.close
     (tie.spec
-    count-spoken-requires
     add-if1
     add-if1-2
     returns
