@@ -1,8 +1,8 @@
 -- Room for a tile, and what recoveries do to the tiles
-use mathlib.Core.Bool.{false}
+use mathlib.Core.Bool.{false, true}
 use mathlib.Core.List.{List, [], _∷_, map}
 use mathlib.Core.Logic.{_≢_}
-use mathlib.Core.Path.{_≡_, ap}
+use mathlib.Core.Path.{_∙_, _≡_, ap, subst, sym}
 use Prim.Native.Nat.{_+_, _<_, _≤_, suc, zero, ℕ}
 use native.Mathlib.Omega.{arith}
 use lib.Dec.{eqb}
@@ -14,11 +14,20 @@ use Rattle.strict.specs.Book.{counted}
 use Rattle.strict.specs.Laws.Counted.{counted-abort}
 use Rattle.strict.specs.Laws.Members.{ascending-apply}
 use Rattle.strict.specs.Laws.Room.{length-insert}
-use Rattle.strict.specs.Operations.{clear, put}
+use Rattle.strict.specs.Operations.{apply, clear, effect, put}
 use Rattle.strict.specs.Tiles.{Ascending, delete, insertTile, member}
+use Rattle.strict.specs.declared.Procedure.{Procedure}
+use Rattle.service.specs.Sound.{Tabled}
+use Rattle.service.specs.Tile.{isKey}
+use Rattle.service.specs.World.{World}
 use Rattle.search.specs.Laws.{used-length}
 use Rattle.search.specs.Table.{TileTable}
-use Rattle.engine.specs.Forms.{recover-entries}
+use Rattle.levels.specs.Laws.{movable, tally-kept}
+use Rattle.levels.specs.Tally.{Movable, tallyAfter, tallyOf}
+use Rattle.levels.specs.declared.Tally.{Tally}
+use Rattle.admission.specs.Laws.{tile-table}
+use Rattle.engine.specs.Counting.{Tallied, tallyIn}
+use Rattle.engine.specs.Forms.{recover-entries, tally-there}
 use Rattle.engine.specs.Undoing.{recovered, recoveredJob}
 
 -- where the tiles fit with the key among them, there is a place for it
@@ -63,3 +72,16 @@ undone-fits job i es t asc =
     let same = ap length (recover-entries job (drop i es) t) in
     let few = counted-from i es t in
     omega arith
+
+-- A COUNT OF THE TILES that is right, before and after a procedure
+pub tallied : (w : World) → Tabled w → Tallied (w .tiles) (tallyIn (w .session))
+tallied w o = record { table = tile-table w o; counted = sym (tally-there w o); few = o .few-tiles }
+
+module _ {l : List ℕ} {c : Tally} (t : Tallied l c) (k : ℕ) (valid : isKey k ≡ true) where
+  pub may-move : Movable c k (member k (take (c .tiles) l))
+  may-move =
+      subst (λ x. Movable x k (member k (take (c .tiles) l))) (sym (t .counted))
+      (movable k valid (take (c .tiles) l) (t .table .ascending) (omega (arith, used-length (t .table), t .table .fits, t .few)))
+
+  pub moves : (p : Procedure) → tallyAfter c p k (member k (take (c .tiles) l)) ≡ tallyOf (apply (effect p) k (take (c .tiles) l))
+  moves p = ap (λ x. tallyAfter x p k (member k (take (c .tiles) l))) (t .counted) ∙ tally-kept k valid (take (c .tiles) l) (t .table .ascending) p

@@ -19,12 +19,15 @@ pub record Ready (w : World) (e : Event) : Type 0 where
   pub unrefused-by : refused (refusals (length (w .tiles)) (length (w .operations)) (state w) e) ≡ false
 
 abbrev pub markedOpen : Session → ℕ → Session
-markedOpen s job = record { rule = s .rule; marks = set (s .marks) job true; tiles = s .tiles; operations = s .operations; journal = s .journal }
+markedOpen s job =
+    record { rule = s .rule; marks = set (s .marks) job true; tiles = s .tiles; operations = s .operations; journal = s .journal; levels = s .levels; spoken = s .spoken }
 
--- the job is closed, with these counts of tiles and operations
+-- the job is closed, with so many operations left, which speak for so many places
 abbrev pub closed : Session → ℕ → ℕ → ℕ → Session
-closed s job tiles operations = record { rule = s .rule; marks = set (s .marks) job false; tiles = tiles; operations = operations; journal = s .journal }
+closed s job operations spoken =
+    record { rule = s .rule; marks = set (s .marks) job false; tiles = s .tiles; operations = operations; journal = s .journal; levels = s .levels; spoken = spoken }
 
 -- from here on a job fails as one
 abbrev pub governed : Session → Session
-governed s = record { rule = Together; marks = s .marks; tiles = s .tiles; operations = s .operations; journal = s .journal }
+governed s =
+    record { rule = Together; marks = s .marks; tiles = s .tiles; operations = s .operations; journal = s .journal; levels = s .levels; spoken = s .spoken }

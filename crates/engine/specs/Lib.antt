@@ -1,3 +1,4 @@
 pub mod Undoing
+pub mod Counting
 pub mod Events
 pub mod Forms

@@ -1,13 +1,22 @@
 -- `engine::abort_job` meets its contract: the recoveries, newest first, and then what a commit does
-use mathlib.Core.List.{[]}
-use mathlib.Core.Path.{_≡_, refl}
-use lib.ListN.{length}
+use mathlib.Core.Bool.{Bool, true}
+use mathlib.Core.List.{List, [], _∷_}
+use mathlib.Core.Path.{_∙_, _≡_, ap, subst, sym}
+use Prim.Native.Nat.{ℕ}
+use lib.ListN.{length, take}
 use borrow.Author.Needs.{needs}
 use denote.Ref.{now}
-use Rattle.admission.specs.Laws.{entry-table, room-there, tile-table}
+use Rattle.lists.specs.Lists.{All}
+use Rattle.admission.specs.Laws.{entry-table, room-there}
+use Rattle.entries.specs.Table.{withoutJob}
+use Rattle.service.specs.Entry.{keyIn}
+use Rattle.service.specs.Sound.{Entry}
+use Rattle.service.specs.Tile.{isKey}
 use Rattle.service.specs.World.{World, world}
+use Rattle.engine.proofs.Laws.{tallied}
 use Rattle.engine.proofs.abort_job.Statement.{statement}
 use Rattle.engine.proofs.abort_job.Tie as tie
+use Rattle.engine.specs.Events.{closed}
 use Rattle.engine.specs.Forms.{aborted}
 
 -- what the function was given
@@ -17,15 +26,30 @@ given c = world (c .args .session) (now (c .args .tiles)) (now (c .args .operati
 full : (c : tie.Start) → length (c .args .session .marks) ≡ 64
 full c = search (needs, c .good)
 
+-- every entry has a valid key
+valid-keys : (marks : List Bool) (es : List ℕ) → All (Entry marks) es → All (λ e. isKey (keyIn e) ≡ true) es
+valid-keys marks [] h = tt
+valid-keys marks (e ∷ es) h = (h .0 .key-valid, valid-keys marks es (h .1))
+
+spoken-without-requires : tie.Need-spoken-without-requires
+spoken-without-requires c κs = c .before .before .before .before .pre .tabled
+
+tally-of-requires : tie.Need-tally-of-requires
+tally-of-requires c κs = search needs
+
 undo-requires : tie.Need-undo-requires
 undo-requires c κs =
-    let s = c .before .before .before .before in
-    (tile-table (given s) (s .pre .tabled), s .pre .tabled .operations-fit, room-there (given s) (s .pre .tabled))
-
-close-job-requires : tie.Need-close-job-requires
-close-job-requires c κs =
     let s = c .before .before .before .before .before .before .before .before in
+    let o = s .pre .tabled in
+    rw (c .before .tally-of .ensures) (tallied (given s) o, o .operations-fit, valid-keys (s .args .session .marks) (take (s .args .session .operations) (now (s .args .operations))) (o .entries), room-there (given s) o)
+
+clear-job-requires : tie.Need-clear-job-requires
+clear-job-requires c κs =
+    let s = c .before .before .before .before .before .before .before .before .before .before .before .before in
     (entry-table (given s) (s .pre .tabled), s .pre .named)
+
+counting-requires : tie.Need-counting-requires
+counting-requires c κs = search needs
 
 same-length : tie.Need-same-length
 same-length c = search needs
@@ -35,11 +59,25 @@ same-length-2 c = search needs
 
 returns : tie.Need-returns
 returns c =
-    let s = c .before .before .before .before .before .before .before .before .before .before .before in
-    let recoveredJob = c .before .before .before .before .before .before .undo .ensures in
-    rw (c .before .before .close-job .ensures .0)
-    (aborted (given s) (full s) (s .args .job) (s .pre) _ _ _ _ (recoveredJob .0) (recoveredJob .1) refl (c .before .before .close-job .ensures .1))
+    let u = c .before .before .before .before .before .before .before in
+    let s = u .before .before .before .before .before .before .before .before .before in
+    let a = s .args in
+    let undone = rw (u .before .before .tally-of .ensures) at (u .undo .ensures) in
+    let cleared = c .before .before .before .clear-job .ensures in
+    rw (c .counting .ensures)
+    (aborted (given s) (full s) (a .job) (s .pre) _ _ _ _ (undone .0) (undone .1)
+    (cleared .0 ∙ ap (closed (a .session) (a .job) (length (withoutJob (a .job) (take (a .session .operations) (now (a .operations)))))) (u .before .before .before .before .spoken-without .ensures))
+    (cleared .1))
 
 pub abort-job-spec : {M : Type 1} → statement M
 abort-job-spec =
-    tie.close (tie.spec undo-requires close-job-requires same-length same-length-2 returns)
+    tie.close
+    (tie.spec
+    spoken-without-requires
+    tally-of-requires
+    undo-requires
+    clear-job-requires
+    counting-requires
+    same-length
+    same-length-2
+    returns)

@@ -1,24 +1,38 @@
--- `engine::close_job` meets its contract: the gaps are closed, and the mark is taken away
-use mathlib.Core.Path.{ap}
+-- `engine::close_job` meets its contract: the job's entries go, with what they speak for
+use mathlib.Core.List.{[]}
+use mathlib.Core.Path.{_∙_, ap}
+use lib.ListN.{length, take}
 use borrow.Author.Needs.{needs}
+use denote.Ref.{now}
+use Rattle.admission.specs.Laws.{entry-table}
+use Rattle.entries.specs.Table.{withoutJob}
+use Rattle.service.specs.World.{World, world}
 use Rattle.engine.proofs.close_job.Statement.{statement}
 use Rattle.engine.proofs.close_job.Tie as tie
 use Rattle.engine.specs.Events.{closed}
+use Rattle.engine.specs.Forms.{committed}
 
-close-gaps-requires : tie.Need-close-gaps-requires
-close-gaps-requires c κs = search needs
+-- what the function was given
+abbrev given : tie.Start → World
+given c = world (c .args .session) (now (c .args .tiles)) (now (c .args .operations)) []
 
-element-write-next : tie.Need-element-write-next
-element-write-next c = search needs
+spoken-without-requires : tie.Need-spoken-without-requires
+spoken-without-requires c κs = c .before .before .before .pre .tabled
+
+clear-job-requires : tie.Need-clear-job-requires
+clear-job-requires c κs = let s = c .before .before .before .before .before in (entry-table (given s) (s .pre .tabled), s .pre .named)
 
 same-length : tie.Need-same-length
 same-length c = search needs
 
 returns : tie.Need-returns
 returns c =
-    let a = c .before .before .before .before .before .args in
-    let left = c .before .before .close-gaps .ensures in
-    (ap (closed (a .session) (a .job) (a .session .tiles)) (left .0), left .1)
+    let s = c .before .before .before .before .before .before .before .before in
+    let a = s .args in
+    let cleared = c .before .before .clear-job .ensures in
+    committed (given s) (s .pre .tabled) (a .job) _ _
+    (cleared .0 ∙ ap (closed (a .session) (a .job) (length (withoutJob (a .job) (take (a .session .operations) (now (a .operations)))))) (c .before .before .before .before .spoken-without .ensures))
+    (cleared .1)
 
 pub close-job-spec : {M : Type 1} → statement M
-close-job-spec = tie.close (tie.spec close-gaps-requires element-write-next same-length returns)
+close-job-spec = tie.close (tie.spec spoken-without-requires clear-job-requires same-length returns)

@@ -1,17 +1,19 @@
 -- `engine::perform_operation` meets its contract: the effect on the tiles, and the entry behind the used ones
 use mathlib.Core.List.{[]}
-use mathlib.Core.Path.{_≡_, ap, refl}
-use lib.ListN.{length, take}
+use mathlib.Core.Path.{_∙_, _≡_, ap, subst, sym}
+use lib.ListN.{length, set, take}
 use borrow.Author.Needs.{needs}
 use denote.Ref.{now}
 use Rattle.admission.specs.Laws.{tile-table}
-use Rattle.service.specs.Laws.Entries.{kind-range}
+use Rattle.service.specs.Entry.{packEntry}
 use Rattle.service.specs.World.{World, world}
+use Rattle.strict.specs.Operations.{kind}
 use Rattle.strict.specs.Tiles.{member}
 use Rattle.tiles.specs.declared.Spot.{Spot}
 use Rattle.engine.proofs.perform_operation.Statement.{statement}
 use Rattle.engine.proofs.perform_operation.Tie as tie
-use Rattle.engine.specs.Forms.{affected-fits, performed, slot-free}
+use Rattle.engine.specs.Counting.{Enters, entered}
+use Rattle.engine.specs.Forms.{affected-fits, may-enter, performed}
 
 -- what the function was given
 abbrev given : tie.Start → World
@@ -24,25 +26,15 @@ found s = ap (λ (x : Spot). x .there) (s .pre .1)
 full : (c : tie.Start) → length (c .args .session .marks) ≡ 64
 full c = search (needs, c .good)
 
-kind-requires : tie.Need-kind-requires
-kind-requires c κs = search needs
-
-entry-requires : tie.Need-entry-requires
-entry-requires c κs = let a = c .before .before .before .args in rw (c .kind .ensures) (kind-range (a .procedure) (a .spot .there) .1)
-
-mul-operations : tie.Need-mul-operations
-mul-operations c = search needs
-
-slice-write-operations : tie.Need-slice-write-operations
-slice-write-operations c = let s = c .before .before .before .before in slot-free (given s) (full s) _ _ _ _ (s .pre .0)
-
 affect-requires : tie.Need-affect-requires
 affect-requires c κs =
-    let s = c .before .before .before .before .before in
+    let s = c .before .before .before in
     (tile-table (given s) (s .pre .0 .tabled), s .pre .1, affected-fits (given s) (full s) _ _ _ _ (s .pre .0))
 
-add-next : tie.Need-add-next
-add-next c = search needs
+enter-requires : tie.Need-enter-requires
+enter-requires c κs =
+    let s = c .before .before .before .before .before .before .before in
+    subst (λ b. Enters (s .args .session) (now (s .args .operations)) (s .args .procedure) (s .args .spot .key) b) (sym (found s)) (may-enter (given s) (full s) _ _ _ _ (s .pre .0))
 
 same-length : tie.Need-same-length
 same-length c = search needs
@@ -52,21 +44,13 @@ same-length-2 c = search needs
 
 returns : tie.Need-returns
 returns c =
-    let e = c .before .before .before .before in
-    let s = e .before .before .before .before in
-    performed (given s) (full s) (s .args .job) (s .args .sheet) (s .args .procedure) (s .args .spot .key) (s .pre .0) _ _ _ (c .before .before .affect .ensures .0) (c .before .before .affect .ensures .1)
-    (rw (e .entry .ensures, e .before .kind .ensures, found s) refl)
+    let s = c .before .before .before .before .before .before .before .before .before .before in
+    let a = s .args in
+    let entry = c .before .before .enter .ensures in
+    performed (given s) (full s) (a .job) (a .sheet) (a .procedure) (a .spot .key) (s .pre .0) _ _ _
+    (entry .0 ∙ ap (entered (a .session) (now (a .operations)) (a .procedure) (a .spot .key)) (found s))
+    (c .before .before .before .before .before .before .affect .ensures .1)
+    (entry .1 ∙ ap (λ b. set (now (a .operations)) (a .session .operations) (packEntry (a .sheet) (kind (a .procedure) b) (a .job) (a .spot .key))) (found s))
 
 pub perform-operation-spec : {M : Type 1} → statement M
-perform-operation-spec =
-    tie.close
-    (tie.spec
-    kind-requires
-    entry-requires
-    mul-operations
-    slice-write-operations
-    affect-requires
-    add-next
-    same-length
-    same-length-2
-    returns)
+perform-operation-spec = tie.close (tie.spec affect-requires enter-requires same-length same-length-2 returns)

@@ -1,13 +1,15 @@
 -- `engine::recover` meets its contract: by the entry's kind
 use mathlib.Core.Path.{_∙_, _≡_, ap, sym}
+use mathlib.Core.Bool.{true}
+use Prim.Native.Nat.{ℕ}
 use lib.ListN.{take}
 use borrow.Author.Needs.{needs}
 use denote.Ref.{now}
-use Rattle.service.specs.Entry.{kindIn}
-use Rattle.search.specs.Laws.{used-length}
+use Rattle.service.specs.Entry.{keyIn, kindIn}
+use Rattle.service.specs.Tile.{isKey}
 use Rattle.tiles.specs.Laws.{spot-named}
 use Rattle.tiles.specs.declared.Spot.{Spot}
-use Rattle.engine.proofs.Laws.{place-for, recovered-one, recovered-other, recovered-three}
+use Rattle.engine.proofs.Laws.{recovered-one, recovered-other, recovered-three}
 use Rattle.engine.proofs.recover.Statement.{statement}
 use Rattle.engine.proofs.recover.Tie as tie
 
@@ -22,12 +24,20 @@ key-in-requires : tie.Need-key-in-requires
 key-in-requires c κs = search needs
 
 find-requires : tie.Need-find-requires
-find-requires c κs = search needs
+find-requires c κs = c .before .before .before .before .before .pre .0 .table
 
-clear-requires : tie.Need-clear-requires
-clear-requires c κs =
-    let start = c .before .before .before .before .before .before .before in
-    (start .pre .0, spot-named (take (start .args .count) (now (start .args .tiles))) _ _ (c .before .find .ensures))
+-- the key that was looked for is that of the entry
+valid : (s : tie.Start) {k : ℕ} → k ≡ keyIn (s .args .e) → isKey k ≡ true
+valid s e = ap isKey e ∙ s .pre .1
+
+affect-counting-requires : tie.Need-affect-counting-requires
+affect-counting-requires c κs =
+    let f = c .before in
+    let k = f .before .before .before in
+    let start = k .before .before .before in
+    let key = ap (λ (x : Spot). x .key) (f .find .ensures) in
+    let fits = rw (recovered-one _ _ (kind-is k ∙ f .before .before .if1 .taken), ← k .key-in .ensures, ← key) at (start .pre .2) in
+    (start .pre .0, spot-named (take (start .args .tally .tiles) (now (start .args .tiles))) _ _ (f .find .ensures), valid start (key ∙ k .key-in .ensures), fits)
 
 same-length : tie.Need-same-length
 same-length c = search needs
@@ -36,18 +46,19 @@ returns : tie.Need-returns
 returns c =
     let f = c .before .before .before .before in
     let k = f .before .before .before in
-    rw (recovered-one _ _ (kind-is k ∙ f .before .before .if1 .taken), ← k .key-in .ensures, ← ap (λ (x : Spot). x .key) (f .find .ensures)) (c .before .before .clear .ensures)
+    rw (recovered-one _ _ (kind-is k ∙ f .before .before .if1 .taken), ← k .key-in .ensures, ← ap (λ (x : Spot). x .key) (f .find .ensures)) (c .before .before .affect-counting .ensures)
 
 find-requires-2 : tie.Need-find-requires-2
-find-requires-2 c κs = search needs
+find-requires-2 c κs = c .before .before .before .before .before .before .pre .0 .table
 
-put-requires : tie.Need-put-requires
-put-requires c κs =
+affect-counting-requires-2 : tie.Need-affect-counting-requires-2
+affect-counting-requires-2 c κs =
     let f = c .before in
     let k = f .before .before .before .before in
     let start = k .before .before .before in
-    let fits = rw (recovered-three _ _ (kind-is k ∙ f .before .before .if2 .taken), ← k .key-in .ensures, ← ap (λ (x : Spot). x .key) (f .find2 .ensures)) at (start .pre .1) in
-    (start .pre .0, spot-named (take (start .args .count) (now (start .args .tiles))) _ _ (f .find2 .ensures), place-for (start .pre .0) (f .find2 .result .key) fits)
+    let key = ap (λ (x : Spot). x .key) (f .find2 .ensures) in
+    let fits = rw (recovered-three _ _ (kind-is k ∙ f .before .before .if2 .taken), ← k .key-in .ensures, ← key) at (start .pre .2) in
+    (start .pre .0, spot-named (take (start .args .tally .tiles) (now (start .args .tiles))) _ _ (f .find2 .ensures), valid start (key ∙ k .key-in .ensures), fits)
 
 same-length-2 : tie.Need-same-length-2
 same-length-2 c = search needs
@@ -56,13 +67,13 @@ returns-2 : tie.Need-returns-2
 returns-2 c =
     let f = c .before .before .before .before in
     let k = f .before .before .before .before in
-    rw (recovered-three _ _ (kind-is k ∙ f .before .before .if2 .taken), ← k .key-in .ensures, ← ap (λ (x : Spot). x .key) (f .find2 .ensures)) (c .before .before .put .ensures)
+    rw (recovered-three _ _ (kind-is k ∙ f .before .before .if2 .taken), ← k .key-in .ensures, ← ap (λ (x : Spot). x .key) (f .find2 .ensures)) (c .before .before .affect-counting2 .ensures)
 
 returns-3 : tie.Need-returns-3
 returns-3 c =
     let start = c .before .before .before .before .before in
     rw (recovered-other _ _ (λ e. c .before .if1 .left (sym (kind-is (c .before .before)) ∙ e)) (λ e. c .if2 .left (sym (kind-is (c .before .before)) ∙ e)))
-    (sym (used-length (start .pre .0)), start .pre .0 .zeros-behind)
+    (start .pre .0 .counted, start .pre .0 .table .zeros-behind)
 
 pub recover-spec : {M : Type 1} → statement M
 recover-spec =
@@ -71,11 +82,11 @@ recover-spec =
     kind-in-requires
     key-in-requires
     find-requires
-    clear-requires
+    affect-counting-requires
     same-length
     returns
     find-requires-2
-    put-requires
+    affect-counting-requires-2
     same-length-2
     returns-2
     returns-3)

@@ -12,7 +12,7 @@ use Rattle.strict.specs.Book.{Book, counted, countedOf, deleted, needsPl
 use Rattle.strict.specs.Commutativity.{changes}
 use Rattle.strict.specs.Histories.{mine, operation}
 use Rattle.strict.specs.Laws.Room.{length-after, room-operation}
-use Rattle.strict.specs.Laws.Soundness.{Elsewhere, elsewhere, member-else, off-tile}
+use Rattle.strict.specs.Laws.Soundness.{Elsewhere, elsewhere, member-else, off-tile, seen-alone}
 use Rattle.strict.specs.Operations.{Op, Step, apply, begun, clear, inverse, kind, put, recovery, skip, undo}
 use Rattle.strict.specs.Sound.{FreeAfter, SoundTable}
 use Rattle.strict.specs.Tiles.{Ascending, member}
@@ -124,3 +124,31 @@ pub spoken-abort : (r : Rule) (j : ℕ) (t : List ℕ) (us : List Op) → SoundT
     → spokenBy r (recover j us t) (others j us) + spokenOf r (mine j) t us ≡ spokenBy r t us
 spoken-abort Alone j t us s = reserved-end Alone j us
 spoken-abort Together j t us s = ap (λ n. n + countedOf (mine j) t us) (counted-undone Together j t us s) ∙ counted-end Together j t us s
+
+-- by the first rule each delete's tile is absent, and none comes after it on that tile: the second would count as many
+elsewhere-undeleted : (u : Op) (us : List Op) → FreeAfter Alone u us → deleted (u .key) us ≡ false
+elsewhere-undeleted u [] f = refl
+elsewhere-undeleted u (v ∷ us) f = rw (ne-eqb (u .key) (v .key) (f .0), and-false (three v), elsewhere-undeleted u us (f .1))
+
+counted-alone : (t : List ℕ) (us : List Op) → SoundTable Alone t us → counted t us ≡ reserved us
+counted-alone t [] s = refl
+counted-alone t (u ∷ us) s = ap₂ (λ m n. m + n) (go (three u) refl) (counted-alone t us (s .1))
+  where
+    found-so : (p : Procedure) (f : Bool) → eqb (kind p f) 3 ≡ true → f ≡ true
+    found-so Del true e = refl
+    found-so Del false e = never (sym e)
+    found-so Ins true e = never (sym e)
+    found-so Ins false e = never (sym e)
+    found-so Mem true e = never (sym e)
+    found-so Mem false e = never (sym e)
+
+    go : (c : Bool) → three u ≡ c → oneIf (c && not (member (u .key) t || deleted (u .key) us)) ≡ oneIf c
+    go false x = refl
+    go true x =
+        let c = three-changes (u .proc) (u .found) x in
+        let free = s .0 .own-tile c in
+        rw (sym (seen-alone u us t free) ∙ s .0 .as-left c ∙ ap not (found-so (u .proc) (u .found) x), elsewhere-undeleted u us free)
+
+pub spoken-either : (r : Rule) (t : List ℕ) (us : List Op) → SoundTable r t us → spokenBy Together t us ≡ spokenBy r t us
+spoken-either Alone t us s = counted-alone t us s
+spoken-either Together t us s = refl

@@ -1,0 +1,33 @@
+-- `engine::spoken_after` meets its contract: by the kind, and by whether a place is needed
+use mathlib.Core.Path.{_∙_, sym}
+use native.Mathlib.Omega.{arith}
+use borrow.Author.Tests.{eq-eqb, ne-eqb}
+use borrow.Author.Needs.{needs}
+use Rattle.engine.proofs.spoken_after.Statement.{statement}
+use Rattle.engine.proofs.spoken_after.Tie as tie
+
+add-result : tie.Need-add-result
+add-result c = search needs
+
+returns : tie.Need-returns
+returns c = rw (eq-eqb _ _ (c .if1 .taken))
+
+returns-2 : tie.Need-returns-2
+returns-2 c = rw (ne-eqb _ _ (c .before .if1 .left), ne-eqb _ _ (c .if2 .taken))
+
+needs-place-requires : tie.Need-needs-place-requires
+needs-place-requires c κs = search needs
+
+returns-3 : tie.Need-returns-3
+returns-3 c = rw (ne-eqb _ _ (c .before .before .before .if1 .left), eq-eqb _ _ (c .before .before .if2 .left), sym (c .before .needs-place .ensures) ∙ c .if3 .taken)
+
+sub-result : tie.Need-sub-result
+sub-result c = c .before .before .before .before .before .pre .some (c .before .before .if2 .left) (sym (c .before .needs-place .ensures) ∙ c .if3 .left)
+
+returns-4 : tie.Need-returns-4
+returns-4 c = rw (ne-eqb _ _ (c .before .before .before .if1 .left), eq-eqb _ _ (c .before .before .if2 .left), sym (c .before .needs-place .ensures) ∙ c .if3 .left)
+
+pub spoken-after-spec : {M : Type 1} → statement M
+spoken-after-spec =
+    tie.close
+    (tie.spec add-result returns returns-2 needs-place-requires returns-3 sub-result returns-4)
