@@ -1,7 +1,7 @@
 // Starting a session, and one operation on it: each takes every input; its promise is one equation with service's specs/Calls.antt.
 ghost use mathlib.Core.Path.{_≡_};
 ghost use Rattle.strict.specs.declared.Rule.the-variants.{Alone};
-ghost use Rattle.service.specs.Calls.{fresh, operationCall, startCall};
+ghost use Rattle.service.specs.Calls.{emptySession, operationCall, startCall};
 ghost use Rattle.service.specs.World.{reported, world};
 use decisions::Decision;
 use service::Address;
@@ -13,11 +13,11 @@ use strict::Rule;
 
 // A start that is refused: no job open, all counts 0, by the first rule.
 fn refused_start(reply: Reply) -> Outcome
-    ensures { λ r. ⌜ (r .reply ≡ reply) × (r .session ≡ fresh Alone 0) ⌝ }
+    ensures { λ r. ⌜ (r .reply ≡ reply) × (r .session ≡ emptySession) ⌝ }
 {
     Outcome {
         reply,
-        session: soundness::fresh_session(Rule::Alone, 0),
+        session: soundness::empty_session(),
     }
 }
 
@@ -41,7 +41,7 @@ pub fn start(
     }
     entries::clear_all(operations);
     journal::write_rule(journal, rule);
-    let begun = soundness::fresh_session(rule, count);
+    let begun = soundness::fresh_session(rule, tiles, count);
     Outcome {
         reply: Reply::Done {
             answer: false,

@@ -6,7 +6,9 @@ use borrow.Author.Needs.{needs}
 use denote.Ref.{now}
 use Rattle.lists.specs.Truth.{test-fails, test-passes}
 use Rattle.service.specs.Calls.{advancedBy, startWorld}
+use Rattle.service.specs.Laws.Soundness.{sound-is}
 use Rattle.service.specs.Sound.{soundB}
+use Rattle.admission.specs.Laws.{tile-table}
 use Rattle.service.specs.declared.Session.{Session}
 use Rattle.operating.specs.Laws.{rule-small, start-done, start-short, start-unsound}
 use Rattle.operating.proofs.start.Statement.{statement}
@@ -61,7 +63,12 @@ write-rule-requires : tie.Need-write-rule-requires
 write-rule-requires c κs = search needs
 
 fresh-session-requires : tie.Need-fresh-session-requires
-fresh-session-requires c κs = search needs
+fresh-session-requires c κs =
+    let e = c .before .before .before .before .before .before .before .before .before .before in
+    let a = e .before .before .before .before .before .before .before .args in
+    let w = startWorld (a .rule) (now (a .tiles)) (a .count) (now (a .operations)) (now (a .journal)) in
+    let o = sound-is w (sound e) .tables in
+    (tile-table w o, o .keys)
 
 advanced-requires : tie.Need-advanced-requires
 advanced-requires c κs =
