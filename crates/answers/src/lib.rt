@@ -6,6 +6,7 @@ use sanbirogu::Read;
 use sanbirogu::Record;
 use sanbirogu::Replayed;
 use sanbirogu::Reply;
+use sanbirogu::Session;
 use terminal::print;
 use terminal::print_line_end;
 use terminal::print_named;
@@ -115,6 +116,26 @@ pub fn print_mended(mended: Mended, sum: u64) {
     print_named(b" aborted ", mended.aborted as u64);
     print_named(b" count ", mended.tiles as u64);
     print_named(b" sum ", sum);
+    print_line_end();
+}
+
+fn print_level(session: Session, zoom: u8) {
+    print_named(b" ", sanbirogu::level_count(session, zoom) as u64);
+}
+
+// The tiles of each level, from the lowest zoom to the highest, as the session has them to hand.
+pub fn list_levels(session: Session) {
+    let mut zoom: u8 = 4;
+    while zoom <= 14 {
+        print_level(session, zoom);
+        zoom += 1;
+    }
+}
+
+pub fn print_levels(session: Session) {
+    print(b"levels");
+    list_levels(session);
+    print_named(b" spoken ", session.spoken as u64);
     print_line_end();
 }
 

@@ -41,6 +41,20 @@ fn sum_of_session(session: Session) -> u64
     folded(with_journal, of_rule(rule))
 }
 
+// The levels, and the places spoken for.
+fn sum_with_counts(before: u64, session: Session) -> u64
+    requires { ⌜ before < 4294967291 ⌝ }
+    ensures { λ r. ⌜ r < 4294967291 ⌝ }
+{
+    let mut sum = before;
+    let mut i: usize = 0;
+    while i < 11 {
+        sum = folded(sum, session.levels[i] as u64);
+        i += 1;
+    }
+    folded(sum, session.spoken as u64)
+}
+
 fn sum_with_tiles(before: u64, tiles: &[u32]) -> u64
     requires { ⌜ before < 4294967291 ⌝ }
     ensures { λ r. ⌜ r < 4294967291 ⌝ }
@@ -80,10 +94,11 @@ fn sum_with_journal(before: u64, journal: &[u8]) -> u64
     sum
 }
 
-// The marks, the three counts, the rule and every place of each table, in this order.
+// The marks, the three counts, the rule, the levels, the places spoken for and every place of each table, in this order.
 pub fn sum(session: Session, tiles: &[u32], operations: &[u64], journal: &[u8]) -> u64 {
     let marked = sum_of_session(session);
-    let tiled = sum_with_tiles(marked, tiles);
+    let counted = sum_with_counts(marked, session);
+    let tiled = sum_with_tiles(counted, tiles);
     let tabled = sum_with_operations(tiled, operations);
     sum_with_journal(tabled, journal)
 }

@@ -1,7 +1,6 @@
 // A session with its lent tables, on which one line after another is answered.
 ghost use mathlib.Core.Path.{_≡_};
 ghost use Rattle.desk.specs.Lent.{Lent};
-use sanbirogu::Rule;
 use sanbirogu::Session;
 use script::Command;
 use script::Word;
@@ -21,7 +20,7 @@ pub fn empty() -> Desk
     ensures { λ r. ⌜ (r .tiles ≡ 0) × (r .operations ≡ 0) × (r .journal ≡ 0) ⌝ }
 {
     Desk {
-        session: sanbirogu::fresh_session(Rule::Alone, 0),
+        session: sanbirogu::empty_session(),
         tiles: 0,
         operations: 0,
         journal: 0,
@@ -75,7 +74,7 @@ fn lend(
     clear_journal(journal);
     answers::print_lent(t, o, j);
     Desk {
-        session: sanbirogu::fresh_session(Rule::Alone, 0),
+        session: sanbirogu::empty_session(),
         tiles: t,
         operations: o,
         journal: j,

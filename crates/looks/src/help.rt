@@ -23,6 +23,9 @@ fn print_looks() {
     print(b"read PLACE                    the record at a place of the journal\n");
     print(b"replay COUNT LENGTH           replay so many journal bytes onto COUNT tiles\n");
     print(b"mend COUNT LENGTH ROOM        mend so many journal bytes into ROOM bytes\n");
+    print(
+        b"levels                        the tiles of each zoom, 4 to 14, and the places spoken for\n",
+    );
     print(b"sum                           one number for the session and all that is lent\n");
     print(b"show                          the session, its tables and its journal in words\n");
     print(b"help                          these lines\n");
@@ -35,6 +38,8 @@ fn print_changes() {
     print(b"tiles COUNT                   set the count of tiles; operations, journal alike\n");
     print(b"mark JOB BIT                  set an open mark, 0 or 1\n");
     print(b"rule RULE                     set the rule, 1 or 2\n");
+    print(b"level ZOOM COUNT              set the count of a zoom, 4 to 14\n");
+    print(b"spoken COUNT                  set the count of the places spoken for\n");
 }
 
 pub fn print_commands() {

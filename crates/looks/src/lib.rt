@@ -117,6 +117,7 @@ pub fn look(
             second(command),
             third(command),
         ),
+        Word::Levels => answers::print_levels(session),
         Word::Sum => answers::print_sum(checksum::sum(session, tiles, operations, journal)),
         Word::Show => picture::show(session, tiles, operations, journal),
         Word::Help => help::print_commands(),

@@ -81,15 +81,41 @@ fn with_rule(session: Session, number: usize) -> Session {
         Numbered::Known(rule) => {
             agree();
             let marks = session.marks;
+            let levels = session.levels;
             Session {
                 rule,
                 marks,
                 tiles: session.tiles,
                 operations: session.operations,
                 journal: session.journal,
+                levels,
+                spoken: session.spoken,
             }
         }
     }
+}
+
+fn with_level(session: Session, zoom: usize, count: usize) -> Session {
+    if zoom < 4 {
+        refuse();
+        return session;
+    }
+    let place = zoom - 4;
+    if 10 < place {
+        refuse();
+        return session;
+    }
+    let mut changed = session;
+    changed.levels[place] = count;
+    agree();
+    changed
+}
+
+fn with_spoken(session: Session, count: usize) -> Session {
+    let mut changed = session;
+    changed.spoken = count;
+    agree();
+    changed
 }
 
 pub fn change(
@@ -111,6 +137,8 @@ pub fn change(
         Word::Journal => return with_counts(session, session.tiles, session.operations, place),
         Word::Mark => return with_mark(session, place, value as usize),
         Word::Rule => return with_rule(session, place),
+        Word::Level => return with_level(session, place, value as usize),
+        Word::Spoken => return with_spoken(session, place),
         _ => refuse(),
     }
     session

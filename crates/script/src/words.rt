@@ -18,6 +18,7 @@ pub enum Word {
     Read,
     Replay,
     Mend,
+    Levels,
     Sum,
     Show,
     Help,
@@ -29,6 +30,8 @@ pub enum Word {
     Journal,
     Mark,
     Rule,
+    Level,
+    Spoken,
     Unknown,
 }
 
@@ -78,6 +81,9 @@ pub fn call_word(line: &[u8], end: usize) -> Word {
     }
     if is_word(line, end, b"mend") {
         return Word::Mend;
+    }
+    if is_word(line, end, b"levels") {
+        return Word::Levels;
     }
     if is_word(line, end, b"sum") {
         return Word::Sum;
@@ -136,6 +142,12 @@ fn change_word(line: &[u8], end: usize) -> Word {
     if is_word(line, end, b"rule") {
         return Word::Rule;
     }
+    if is_word(line, end, b"level") {
+        return Word::Level;
+    }
+    if is_word(line, end, b"spoken") {
+        return Word::Spoken;
+    }
     Word::Unknown
 }
 
@@ -156,6 +168,7 @@ pub fn types_of(word: Word) -> [u8; MOST_NUMBERS] {
         Word::Read => *b"n-------",
         Word::Replay => *b"nn------",
         Word::Mend => *b"nnn-----",
+        Word::Levels => *b"--------",
         Word::Sum => *b"--------",
         Word::Show => *b"--------",
         Word::Help => *b"--------",
@@ -167,6 +180,8 @@ pub fn types_of(word: Word) -> [u8; MOST_NUMBERS] {
         Word::Journal => *b"n-------",
         Word::Mark => *b"bb------",
         Word::Rule => *b"b-------",
+        Word::Level => *b"bn------",
+        Word::Spoken => *b"n-------",
         Word::Unknown => *b"--------",
     }
 }
