@@ -1,11 +1,12 @@
-//! What a session's rule decides: whether an operation is held, whether it lacks a tile place, and
-//! whether the unfinished changes of the tiles fit together.
+//! What a session's rule decides: whether an operation is held, whether it lacks a tile place, which
+//! places are spoken for, and whether the unfinished changes of the tiles fit together.
 
 use crate::operation::{Admitted, Kind, Origin, Procedure};
 use crate::reply::Refusal;
 use crate::rule::Rule;
+use crate::session::{count_of, length_of};
 use crate::state::State;
-use crate::tile::Tile;
+use crate::tile::{Tile, LEVELS_SERVED};
 use std::collections::{BTreeMap, BTreeSet};
 
 impl State {
@@ -21,7 +22,7 @@ impl State {
         if let Some(holder) = wanted.iter().find_map(|one| self.holder(one)) {
             return Err(Refusal::Held(holder));
         }
-        if self.places_spoken_for() + self.places_needed(&wanted) > self.tile_places {
+        if self.places_taken() + self.places_needed(&wanted) > self.tile_places {
             return Err(Refusal::NoTileRoom);
         }
         if self.admitted.len() + wanted.len() > self.operation_places {
@@ -63,30 +64,51 @@ impl State {
         }
     }
 
-    /// The tiles of the unfinished deletes that took effect, in order of admission.
-    fn removed(&self) -> impl Iterator<Item = Tile> + '_ {
+    /// The unfinished deletes that took effect, in order of admission.
+    fn removals(&self) -> impl Iterator<Item = &Admitted> {
         let removed = |entry: &&Admitted| entry.kind == Kind::Removed;
-        self.admitted.iter().filter(removed).map(|entry| entry.tile)
+        self.admitted.iter().filter(removed)
     }
 
-    /// Tile places in use, with those that an unfinished delete may need back.
-    pub fn places_spoken_for(&self) -> usize {
-        let may_come_back = match self.rule {
-            Rule::EachAlone => self.removed().count(),
+    /// The tile places that those of the entries may need back.
+    pub fn spoken_by(&self, counts: impl Fn(&Admitted) -> bool) -> u32 {
+        let removals = self.removals().filter(|entry| counts(entry));
+        let places = match self.rule {
+            Rule::EachAlone => removals.count(),
             Rule::JobAsOne => {
-                let absent = self.removed().filter(|tile| !self.tiles.contains(tile));
+                let tiles = removals.map(|entry| entry.tile);
+                let absent = tiles.filter(|tile| !self.tiles.contains(tile));
                 absent.collect::<BTreeSet<Tile>>().len()
             }
         };
-        self.tiles.len() + may_come_back
+        count_of(places)
+    }
+
+    /// Counts what every call then keeps: the tiles of each level and the places spoken for.
+    pub fn count_anew(&mut self) {
+        self.levels = [0; LEVELS_SERVED];
+        for tile in &self.tiles {
+            self.levels[tile.level_place()] += 1;
+        }
+        self.spoken = self.spoken_by(|_| true);
+    }
+
+    /// Tile places in use, with those that an unfinished delete may need back.
+    pub fn places_taken(&self) -> usize {
+        self.tiles.len() + length_of(self.spoken)
+    }
+
+    /// Whether an absent tile's place is spoken for by a delete of the only job that may insert
+    /// the tile again.
+    pub fn has_its_place(&self, tile: Tile) -> bool {
+        match self.rule {
+            Rule::EachAlone => false,
+            Rule::JobAsOne => self.removals().any(|entry| entry.tile == tile),
+        }
     }
 
     fn needs_place(&self, wanted: &Admitted) -> bool {
-        let has_its_place = match self.rule {
-            Rule::EachAlone => false,
-            Rule::JobAsOne => self.removed().any(|tile| tile == wanted.tile),
-        };
-        wanted.kind == Kind::Added && !has_its_place
+        wanted.kind == Kind::Added && !self.has_its_place(wanted.tile)
     }
 
     /// Whether the unfinished changes can be undone from the tiles as they stand.

@@ -4,7 +4,8 @@ use crate::console::Console;
 use crate::journal::rule_of_journal;
 use crate::journals::journal;
 use crate::line::{parse, Call, Command};
-use crate::occasions::{occasions, occasions_printed, occasions_told};
+use crate::occasions::{call_on_session, occasions, occasions_of_counts, Before};
+use crate::occasions::{occasions_printed, occasions_told};
 use crate::printed::printed_replay;
 use crate::rule::Rule;
 use crate::scripts::script;
@@ -51,6 +52,7 @@ fn group_of(console: &Console, command: Command) -> String {
         Command::Read(_) => "read".to_string(),
         Command::Replay(_, length) => by("replay", rule_replayed(console, length)),
         Command::Mend(_, length, _) => by("mend", rule_replayed(console, length)),
+        Command::Levels => "levels".to_string(),
         Command::Sum => "sum".to_string(),
         Command::Show | Command::Help => "picture".to_string(),
         Command::Change(_) => "change".to_string(),
@@ -86,22 +88,19 @@ fn count_command(counts: &mut Counts, console: &mut Console, command: Command, l
         count(counts, name_of_occasion(&name));
     }
     let group = group_of(console, command);
+    let before = Before::of(console);
     let answer = console.answer(line);
-    let told = number_of(&answer).map(|number| occasions_told(command, number));
-    for name in told.unwrap_or_default() {
-        count(counts, name_of_occasion(&name));
+    let number = number_of(&answer);
+    let told = number.map(|number| occasions_told(command, number));
+    let of_counts = occasions_of_counts(&before, console, command, number);
+    for name in told.unwrap_or_default().iter().chain(&of_counts) {
+        count(counts, name_of_occasion(name));
     }
     let sort = sort_of(&answer);
     count(counts, name_of(&group, &sort));
-    if sort == "reply  1" && is_on_session(command) {
+    if number == Some(1) && call_on_session(command).is_some() {
         count_broken(counts, console);
     }
-}
-
-/// Whether the call is refused by 1 exactly where the session's tables are not sound.
-fn is_on_session(command: Command) -> bool {
-    let starts = matches!(command, Command::Call(Call::Start(..)));
-    matches!(command, Command::Call(_) | Command::Sweep(..)) && !starts
 }
 
 pub fn name_of_occasion(name: &str) -> String {

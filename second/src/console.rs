@@ -12,7 +12,8 @@ use crate::replay::replay;
 use crate::reply::{numbers, sweep_numbers, Numbers, Reply, SweepNumbers, SweepReply};
 use crate::service;
 use crate::session::{length_of, Session, Tables};
-use crate::words::record_text;
+use crate::tile::level_place;
+use crate::words::{levels_text, record_text};
 
 const MOST_LENT: (u32, u32, u32) = (5000, 1200, 66_000);
 const SUM_MODULUS: u64 = 4_294_967_291;
@@ -59,6 +60,7 @@ impl Console {
             Command::Read(place) => Some(self.read(length_of(place))),
             Command::Replay(count, length) => self.replay(count, length_of(length)),
             Command::Mend(count, length, room) => self.mend(count, length_of(length), room),
+            Command::Levels => Some(levels_text(&self.session)),
             Command::Sum => Some(format!("sum {}", self.sum())),
             Command::Show => Some(picture(&self.session, &self.tables, self.used_journal())),
             Command::Help => Some(help()),
@@ -98,7 +100,7 @@ impl Console {
         service::sweep(session, tables, origin, sweep, rectangle)
     }
 
-    /// Changes something from outside; none for a place that is not lent.
+    /// Changes something from outside; none for a place that is not lent and a zoom that is none.
     fn change(&mut self, change: Change) -> Option<()> {
         let (session, tables) = (&mut self.session, &mut self.tables);
         match change {
@@ -110,6 +112,8 @@ impl Console {
             Change::Journal(count) => session.journal = count,
             Change::Mark(job, mark) => *session.open.get_mut(usize::from(job))? = mark,
             Change::Rule(rule) => session.rule = rule,
+            Change::Level(zoom, count) => session.levels[level_place(zoom)?] = count,
+            Change::Spoken(count) => session.spoken = count,
         }
         Some(())
     }
@@ -170,13 +174,14 @@ impl Console {
     fn sum(&self) -> u64 {
         let session = &self.session;
         let marks = session.open.iter().map(|mark| u64::from(*mark));
-        let counts = [session.tiles, session.operations, session.journal];
-        let rule = std::iter::once(u64::from(session.rule.number()));
+        let used = [session.tiles, session.operations, session.journal];
+        let rule = [u32::from(session.rule.number())];
+        let spoken = [session.spoken];
+        let numbers = [&used[..], &rule, &session.levels, &spoken].concat();
         let tiles = self.tables.tiles.iter().map(|key| u64::from(*key));
         let entries = self.tables.operations.iter().copied();
         let bytes = self.tables.journal.iter().map(|byte| u64::from(*byte));
-        let counts = counts.iter().map(|count| u64::from(*count));
-        let session = marks.chain(counts).chain(rule);
+        let session = marks.chain(numbers.into_iter().map(u64::from));
         sum_of(session.chain(tiles).chain(entries).chain(bytes))
     }
 }

@@ -5,7 +5,7 @@ use crate::rule::Rule;
 use crate::session::{count_of, length_of, Session, Tables};
 use crate::session::{JOBS, MOST_JOURNAL, MOST_OPERATIONS, MOST_TILES};
 use crate::state::State;
-use crate::tile::Tile;
+use crate::tile::{Tile, LEVELS_SERVED};
 use std::collections::BTreeSet;
 
 const SHEET_STEP: u64 = 1 << 48;
@@ -86,14 +86,18 @@ impl State {
         if !lengths_fit {
             return None;
         }
-        Some(State {
+        let mut state = State {
             rule,
             tiles: decode_tiles(tiles, count)?,
             tile_places,
             admitted: Vec::new(),
             operation_places,
             open: BTreeSet::new(),
-        })
+            levels: [0; LEVELS_SERVED],
+            spoken: 0,
+        };
+        state.count_anew();
+        Some(state)
     }
 
     /// The state that the lent tables stand for; none if they are not sound.
@@ -108,11 +112,15 @@ impl State {
             .map(|entry| decode_entry(*entry, &state.open))
             .collect();
         state.admitted = admitted?;
+        // The levels are counted above, as a start does; the entries are there only now.
+        state.spoken = state.spoken_by(|_| true);
+        let counts_stand = state.levels == session.levels && state.spoken == session.spoken;
         let free = free_bytes(session, tables)?;
         let sound = tables.journal.len() <= MOST_JOURNAL
             && free >= ENDING_BYTES * state.open.len()
             && state.changes_stand()
-            && state.places_spoken_for() <= state.tile_places;
+            && state.places_taken() <= state.tile_places
+            && counts_stand;
         if sound {
             Some(state)
         } else {
@@ -134,6 +142,8 @@ impl State {
             self.admitted.iter().map(encode_entry),
         );
         session.operations = count_of(self.admitted.len());
+        session.levels = self.levels;
+        session.spoken = self.spoken;
         for (job, mark) in (0u8..).zip(session.open.iter_mut()) {
             *mark = self.open.contains(&job);
         }

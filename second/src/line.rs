@@ -14,6 +14,7 @@ pub enum Command {
     Read(u32),
     Replay(u32, u32),
     Mend(u32, u32, u32),
+    Levels,
     Sum,
     Show,
     Help,
@@ -41,6 +42,8 @@ pub enum Change {
     Journal(u32),
     Mark(u8, bool),
     Rule(Rule),
+    Level(u8, u32),
+    Spoken(u32),
 }
 
 /// No command has more numbers than this, and no word or number of one more bytes.
@@ -76,6 +79,7 @@ fn parse_other(word: &[u8], numbers: &[&[u8]]) -> Option<Command> {
         (b"mend", [tiles, length, room]) => {
             Command::Mend(count(tiles)?, count(length)?, count(room)?)
         }
+        (b"levels", []) => Command::Levels,
         (b"sum", []) => Command::Sum,
         (b"show", []) => Command::Show,
         (b"help", []) => Command::Help,
@@ -106,6 +110,8 @@ fn parse_change(word: &[u8], numbers: &[&[u8]]) -> Option<Change> {
         (b"journal", [used]) => Change::Journal(count(used)?),
         (b"mark", [job, mark]) => Change::Mark(small(job)?, bit(mark)?),
         (b"rule", [number]) => Change::Rule(rule(number)?),
+        (b"level", [zoom, tiles]) => Change::Level(small(zoom)?, count(tiles)?),
+        (b"spoken", [places]) => Change::Spoken(count(places)?),
         _ => return None,
     })
 }

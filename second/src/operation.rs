@@ -165,17 +165,4 @@ impl Admitted {
             Recovery::Insert(_) | Recovery::Delete(_) => true,
         }
     }
-
-    /// The operation's own effect on the tiles.
-    pub fn run(&self, tiles: &mut BTreeSet<Tile>) {
-        match self.kind {
-            Kind::Added => {
-                tiles.insert(self.tile);
-            }
-            Kind::Removed => {
-                tiles.remove(&self.tile);
-            }
-            Kind::AlreadyThere | Kind::AlreadyGone | Kind::Seen | Kind::Missed => {}
-        }
-    }
 }

@@ -4,10 +4,10 @@
 use crate::journal::{Reader, Reading};
 use crate::session::{length_of, Session, Tables};
 use crate::tile::Tile;
-use crate::words::record_text;
+use crate::words::{levels_text, record_text};
 
 /// Each command with its numbers and, after two spaces or more, what it does.
-pub const COMMANDS: [&str; 25] = [
+pub const COMMANDS: [&str; 28] = [
     "lend T O J  lends tile places (at most 5000), operation places (1200), journal bytes (66000)",
     "start count rule  starts on the tile table as it stands, by rule 1 or 2",
     "open job  opens a job, 0 to 63",
@@ -22,6 +22,7 @@ pub const COMMANDS: [&str; 25] = [
     "read place  reads a record of the journal",
     "replay count length  replays the first bytes of the journal onto the tile table",
     "mend count length room  mends the first bytes of the journal into an output",
+    "levels  the tiles of each level, 4 to 14, and the places that deletes have spoken for",
     "sum  one number for everything",
     "show  the session and what is lent",
     "help  these commands",
@@ -33,6 +34,8 @@ pub const COMMANDS: [&str; 25] = [
     "journal count  sets the count of journal bytes",
     "mark job bit  sets an open mark",
     "rule n  sets the rule, 1 or 2",
+    "level zoom count  sets the count of a level, 4 to 14",
+    "spoken count  sets the count of places spoken for",
 ];
 
 pub fn help() -> String {
@@ -49,6 +52,7 @@ pub fn picture(session: &Session, tables: &Tables, journal: &[u8]) -> String {
         session.rule.number(),
         jobs
     )];
+    lines.push(levels_text(session));
     lines.push(used_text("tiles", session.tiles, tables.tiles.len()));
     let keys = tables.tiles.iter().take(length_of(session.tiles));
     lines.extend(keys.map(|key| key_text(*key)));

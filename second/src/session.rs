@@ -1,6 +1,7 @@
 //! The session record and the lent tables, as plain numbers.
 
 use crate::rule::Rule;
+use crate::tile::{level_place, LEVELS_SERVED};
 
 pub const JOBS: usize = 64;
 pub const MOST_TILES: usize = 4096;
@@ -25,7 +26,8 @@ impl Tables {
     }
 }
 
-/// One open mark for each job, the three counts of what is used, and the rule.
+/// One open mark for each job, the three counts of what is used, the rule, and the counts that
+/// are kept so that nobody has to count.
 #[derive(Clone, Debug, PartialEq, Eq)]
 pub struct Session {
     pub open: [bool; JOBS],
@@ -33,6 +35,10 @@ pub struct Session {
     pub operations: u32,
     pub journal: u32,
     pub rule: Rule,
+    /// The tiles of each level, from the lowest zoom on.
+    pub levels: [u32; LEVELS_SERVED],
+    /// The tile places that unfinished deletes may need back, besides those in use.
+    pub spoken: u32,
 }
 
 impl Session {
@@ -43,7 +49,14 @@ impl Session {
             operations: 0,
             journal: 0,
             rule: Rule::EachAlone,
+            levels: [0; LEVELS_SERVED],
+            spoken: 0,
         }
+    }
+
+    /// How many tiles of a zoom there are, for the pack screen; 0 for a zoom that is none.
+    pub fn tiles_of_zoom(&self, zoom: u8) -> u32 {
+        level_place(zoom).map_or(0, |place| self.levels[place])
     }
 }
 

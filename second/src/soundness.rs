@@ -2,8 +2,8 @@
 //! it while it decodes; this second wording is for tests and for the census of damaged tables.
 
 use crate::rule::Rule;
-use crate::session::{length_of, Session, Tables, JOBS};
-use crate::tile::Tile;
+use crate::session::{count_of, length_of, Session, Tables, JOBS};
+use crate::tile::{Tile, LEVELS_SERVED, ZOOMS};
 
 #[derive(Clone, Copy, Debug, PartialEq, Eq, PartialOrd, Ord)]
 pub enum Requirement {
@@ -27,9 +27,13 @@ pub enum Requirement {
     OneJobOnward,
     TileRoom,
     JournalRoom,
+    /// The count of a level, by its zoom.
+    LevelCount(u8),
+    SpokenCount,
 }
 
-pub const REQUIREMENTS: [Requirement; 20] = [
+/// All but those of the levels, which are one for each zoom.
+const REQUIREMENTS: [Requirement; 21] = [
     Requirement::TileLength,
     Requirement::OperationLength,
     Requirement::JournalLength,
@@ -50,10 +54,11 @@ pub const REQUIREMENTS: [Requirement; 20] = [
     Requirement::OneJobOnward,
     Requirement::TileRoom,
     Requirement::JournalRoom,
+    Requirement::SpokenCount,
 ];
 
 /// The requirements of a rule. Three are asked by one rule only; the others by both, though rule 2
-/// asks for presence, absence and room in its own way.
+/// asks for presence, absence, room and the count of places spoken for in its own way.
 pub fn requirements_of(rule: Rule) -> impl Iterator<Item = Requirement> {
     let asked = move |requirement: &Requirement| match rule {
         Rule::EachAlone => {
@@ -62,7 +67,8 @@ pub fn requirements_of(rule: Rule) -> impl Iterator<Item = Requirement> {
         }
         Rule::JobAsOne => *requirement != Requirement::NothingLater,
     };
-    REQUIREMENTS.iter().copied().filter(asked)
+    let of_levels = ZOOMS.map(Requirement::LevelCount);
+    REQUIREMENTS.into_iter().filter(asked).chain(of_levels)
 }
 
 pub fn sheet_of(entry: u64) -> u16 {
@@ -108,17 +114,31 @@ fn used<T>(places: &[T], count: u32) -> &[T] {
 
 /// The requirements of the session's rule that are broken, each looked at on its own.
 pub fn broken(session: &Session, tables: &Tables) -> Vec<Requirement> {
-    let view = View {
-        session,
-        tables,
-        tiles: used(&tables.tiles, session.tiles),
-        entries: used(&tables.operations, session.operations),
-    };
+    let view = View::of(session, tables);
     let broken = requirements_of(session.rule).filter(|requirement| !view.keeps(*requirement));
     broken.collect()
 }
 
-impl View<'_> {
+/// What a fresh count of the used places gives: the tiles of each level, and the places spoken for.
+pub fn fresh_counts(session: &Session, tables: &Tables) -> ([u32; LEVELS_SERVED], u32) {
+    let view = View::of(session, tables);
+    let mut levels = [0; LEVELS_SERVED];
+    for (level, zoom) in levels.iter_mut().zip(ZOOMS) {
+        *level = count_of(view.on_level(zoom));
+    }
+    (levels, count_of(view.spoken_for()))
+}
+
+impl<'a> View<'a> {
+    fn of(session: &'a Session, tables: &'a Tables) -> View<'a> {
+        View {
+            session,
+            tables,
+            tiles: used(&tables.tiles, session.tiles),
+            entries: used(&tables.operations, session.operations),
+        }
+    }
+
     fn keeps(&self, requirement: Requirement) -> bool {
         let (session, tables) = (self.session, self.tables);
         let mut entries = self.entries.iter().copied();
@@ -143,6 +163,10 @@ impl View<'_> {
             Requirement::OneJobOnward => self.changes().all(|place| self.keeps_its_job(place)),
             Requirement::TileRoom => self.tiles.len() + self.spoken_for() <= tables.tiles.len(),
             Requirement::JournalRoom => self.has_room_for_endings(),
+            Requirement::LevelCount(zoom) => {
+                length_of(session.tiles_of_zoom(zoom)) == self.on_level(zoom)
+            }
+            Requirement::SpokenCount => length_of(session.spoken) == self.spoken_for(),
         }
     }
 
@@ -191,6 +215,12 @@ impl View<'_> {
     fn keeps_its_job(&self, place: usize) -> bool {
         let job = job_of(self.entries[place]);
         self.later(place).all(|entry| job_of(entry) == job)
+    }
+
+    /// The tiles whose key says this zoom.
+    fn on_level(&self, zoom: u8) -> usize {
+        let of_zoom = |key: &&u32| **key >> 28 == u32::from(zoom);
+        self.tiles.iter().filter(of_zoom).count()
     }
 
     /// Places besides those of the tiles: by rule 1 one for each entry of kind 3, by rule 2 one

@@ -1,9 +1,15 @@
 //! Tiles, the keys that stand for them, and the way to them from a column and a row.
 
 use crate::edition::Edition;
+use std::ops::RangeInclusive;
 
 const LOWEST_ZOOM: u32 = 4;
 const HIGHEST_ZOOM: u32 = 14;
+
+/// The zooms that are served, a level each.
+pub const ZOOMS: RangeInclusive<u8> = LOWEST_ZOOM as u8..=HIGHEST_ZOOM as u8;
+pub const LEVELS_SERVED: usize = (HIGHEST_ZOOM - LOWEST_ZOOM + 1) as usize;
+
 const ZOOM_STEP: u32 = 268_435_456;
 const COLUMN_STEP: u32 = 16_384;
 
@@ -23,6 +29,12 @@ pub fn side_of(zoom: u32) -> Option<u32> {
     } else {
         None
     }
+}
+
+/// The place of a zoom's count among the counts of all levels; none for a zoom that is none.
+pub fn level_place(zoom: u8) -> Option<usize> {
+    let mut zooms = ZOOMS;
+    zooms.position(|served| served == zoom)
 }
 
 /// What an address leads to: a tile, and how many whole turns round the world lie between its
@@ -79,6 +91,11 @@ impl Tile {
 
     pub fn zoom(self) -> u32 {
         self.zoom
+    }
+
+    /// The place of its level's count.
+    pub fn level_place(self) -> usize {
+        (self.zoom - LOWEST_ZOOM) as usize
     }
 
     /// The number of columns, and of rows, of its level.

@@ -1,7 +1,8 @@
-//! Records of the journal in the console's words.
+//! Records of the journal, and the counts that a session keeps, in the console's words.
 
 use crate::journal::{Record, Recorded};
 use crate::rule::Rule;
+use crate::session::Session;
 
 pub fn record_text(record: Record) -> String {
     match record {
@@ -11,6 +12,11 @@ pub fn record_text(record: Record) -> String {
         Record::Abort(job) => format!("abort {}", job),
         Record::JobAsOne => format!("rule {}", Rule::JobAsOne.number()),
     }
+}
+
+pub fn levels_text(session: &Session) -> String {
+    let counts: String = session.levels.map(|count| format!(" {}", count)).concat();
+    format!("levels{} spoken {}", counts, session.spoken)
 }
 
 /// The word tells a record with a sheet from an old one.

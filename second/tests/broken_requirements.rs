@@ -23,6 +23,14 @@ fn sound_bench(rule: Rule) -> Bench {
     bench
 }
 
+/// The same with something else in the tables. The kept counts go along.
+fn changed_bench(rule: Rule, change: Change) -> Bench {
+    let mut bench = sound_bench(rule);
+    change(&mut bench);
+    bench.count_anew();
+    bench
+}
+
 /// Puts entries behind the three that are there.
 fn add(bench: &mut Bench, entries: &[u64]) {
     bench.tables.operations[3..3 + entries.len()].copy_from_slice(entries);
@@ -44,7 +52,8 @@ fn third_key() -> u64 {
     u64::from(tile(Address { column: 7, ..A }).key())
 }
 
-/// Each change breaks the requirement and no other one, by either rule.
+/// Each change breaks the requirement and no other one, by either rule, where the kept counts go
+/// along.
 const CHANGES: [(Requirement, Change); 20] = [
     (Requirement::TileLength, |bench| {
         bench.tables.tiles.resize(4097, 0)
@@ -148,9 +157,19 @@ const CHANGES_BY_ONE_RULE: [(Rule, Requirement, Change); 8] = [
     }),
 ];
 
-fn check_alone(rule: Rule, requirement: Requirement, change: Change) {
+/// Each kept count is one more than it should be.
+fn wrong_counts(rule: Rule) -> Vec<(Requirement, Bench)> {
+    let levels = (4..=14).map(|zoom: u8| {
+        let mut bench = sound_bench(rule);
+        bench.session.levels[usize::from(zoom) - 4] += 1;
+        (Requirement::LevelCount(zoom), bench)
+    });
     let mut bench = sound_bench(rule);
-    change(&mut bench);
+    bench.session.spoken += 1;
+    levels.chain([(Requirement::SpokenCount, bench)]).collect()
+}
+
+fn check_alone(requirement: Requirement, mut bench: Bench) {
     assert_eq!(broken(&bench.session, &bench.tables), [requirement]);
     let before = bench.clone();
     assert_eq!(bench.operate(0, Procedure::Member, B), refused(1));
@@ -162,13 +181,17 @@ fn check_alone(rule: Rule, requirement: Requirement, change: Change) {
 fn each_requirement_broken_alone_is_refused() {
     let mut tried: BTreeSet<(u8, Requirement)> = BTreeSet::new();
     for rule in RULES {
-        for (requirement, change) in CHANGES {
-            check_alone(rule, requirement, change);
+        let changed = CHANGES.map(|(requirement, change)| {
+            let bench = changed_bench(rule, change);
+            (requirement, bench)
+        });
+        for (requirement, bench) in changed.into_iter().chain(wrong_counts(rule)) {
+            check_alone(requirement, bench);
             tried.insert((rule.number(), requirement));
         }
     }
     for (rule, requirement, change) in CHANGES_BY_ONE_RULE {
-        check_alone(rule, requirement, change);
+        check_alone(requirement, changed_bench(rule, change));
         tried.insert((rule.number(), requirement));
     }
     let all = RULES.iter().flat_map(|rule| {
@@ -187,8 +210,7 @@ fn room_to_the_last_place_is_sound() {
     ];
     for rule in RULES {
         for change in changes {
-            let mut bench = sound_bench(rule);
-            change(&mut bench);
+            let mut bench = changed_bench(rule, change);
             assert_eq!(broken(&bench.session, &bench.tables), []);
             assert_eq!(bench.commit(0), DONE);
         }
@@ -213,11 +235,11 @@ fn changes_that_follow_each_other_are_sound_by_rule_2() {
         },
     ];
     for change in changes {
-        let mut bench = sound_bench(Rule::JobAsOne);
-        change(&mut bench);
+        let mut bench = changed_bench(Rule::JobAsOne, change);
         assert_eq!(broken(&bench.session, &bench.tables), []);
         assert!(bench.is_sound());
         bench.session.rule = Rule::EachAlone;
+        bench.count_anew();
         assert!(!broken(&bench.session, &bench.tables).is_empty());
         assert!(!bench.is_sound());
     }
@@ -246,6 +268,7 @@ fn entries_on_one_tile_by_both_rules() {
             bench.tables.operations.fill(0);
             bench.tables.operations[..entries.len()].copy_from_slice(entries);
             bench.session.operations = entries.len() as u32;
+            bench.count_anew();
             let keeps_all = broken(&bench.session, &bench.tables).is_empty();
             assert_eq!(bench.is_sound(), keeps_all, "{:?}", entries);
             sound[rule] += usize::from(keeps_all);

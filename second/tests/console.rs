@@ -37,7 +37,7 @@ fn nothing_is_lent_at_the_beginning() {
         open 0 => reply 1 answer 0 holder 0 sheet 0 turns 0
         ins 0 7 2 4 -1 5 => reply 1 answer 0 holder 0 sheet 0 turns 0
         delall 0 7 2 4 -1 5 0 0 => reply 1 holder 0 sheet 0 turns 0 0
-        sum => sum 1
+        sum => sum 623557158
         read 0 => end
         replay 0 0 => reply 1 offset 0 undone 0 count 0
         replay 7 1 => ?
@@ -196,7 +196,7 @@ fn a_start_by_rule_2_needs_four_bytes() {
         "lend 1 1 3 => lent 1 1 3
         rule 2 => ok
         start 0 2 => reply 9 answer 0 holder 0 sheet 0 turns 0
-        sum => sum 28629151
+        sum => sum 747555506
         lend 1 1 4 => lent 1 1 4
         start 0 2 => reply 0 answer 0 holder 0 sheet 0 turns 0
         byte 3 1 => ok
@@ -206,7 +206,7 @@ fn a_start_by_rule_2_needs_four_bytes() {
         journal 3 => ok
         read 0 => cut
         lend 1 1 3 => lent 1 1 3
-        sum => sum 28629151",
+        sum => sum 747555506",
     );
 }
 
@@ -240,5 +240,44 @@ fn reading_uses_all_lent_bytes_where_the_count_is_larger() {
         byte 0 7 => ok
         read 0 => reply 10 offset 0
         read 4 => end",
+    );
+}
+
+#[test]
+fn counts_by_hand() {
+    holds(
+        "levels => levels 0 0 0 0 0 0 0 0 0 0 0 spoken 0
+        lend 4 6 200 => lent 4 6 200
+        tile 0 1073987589 => ok
+        tile 1 4026531839 => ok
+        start 2 2 => reply 0 answer 0 holder 0 sheet 0 turns 0
+        levels => levels 1 0 0 0 0 0 0 0 0 0 1 spoken 0
+        open 1 => reply 0 answer 0 holder 0 sheet 0 turns 0
+        del 1 7 2 14 -1 16383 => reply 0 answer 1 holder 0 sheet 0 turns -1
+        levels => levels 1 0 0 0 0 0 0 0 0 0 0 spoken 1
+        insall 1 7 2 5 -1 0 3 3 => reply 0 holder 0 sheet 0 turns -1 0
+        levels => levels 1 2 0 0 0 0 0 0 0 0 0 spoken 1
+        ins 1 7 2 9 0 0 => reply 7 answer 0 holder 0 sheet 0 turns 0
+        ins 1 7 2 14 -1 16383 => reply 0 answer 1 holder 0 sheet 0 turns -1
+        levels => levels 1 2 0 0 0 0 0 0 0 0 1 spoken 0
+        level 5 1 => ok
+        open 2 => reply 1 answer 0 holder 0 sheet 0 turns 0
+        delall 1 7 2 5 -1 0 3 3 => reply 1 holder 0 sheet 0 turns 0 0
+        levels => levels 1 1 0 0 0 0 0 0 0 0 1 spoken 0
+        level 5 2 => ok
+        spoken 1 => ok
+        abort 1 => reply 1 answer 0 holder 0 sheet 0 turns 0
+        spoken 0 => ok
+        level 15 0 => ?
+        level 3 0 => ?
+        abort 1 => reply 0 answer 0 holder 0 sheet 0 turns 0
+        levels => levels 1 0 0 0 0 0 0 0 0 0 1 spoken 0
+        start 1 1 => reply 1 answer 0 holder 0 sheet 0 turns 0
+        levels => levels 0 0 0 0 0 0 0 0 0 0 0 spoken 0
+        tiles 2 => ok
+        open 1 => reply 1 answer 0 holder 0 sheet 0 turns 0
+        level 4 1 => ok
+        level 14 1 => ok
+        open 1 => reply 0 answer 0 holder 0 sheet 0 turns 0",
     );
 }

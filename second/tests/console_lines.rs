@@ -9,7 +9,7 @@ use second::picture::COMMANDS;
 
 /// Lines that are no command where 2 tile places, 3 operation places and 60 bytes are lent.
 #[rustfmt::skip]
-const BAD_LINES: [&[u8]; 109] = [
+const BAD_LINES: [&[u8]; 131] = [
     b"", b" ", b"sum ", b" sum", b"sum 0", b"SUM", b"sum\r", b"sum\t", b"open", b"open  1",
     b"open 1 ", b"open 01", b"open +1", b"open -1", b"open 256", b"open 1 2", b"open\t1",
     b"open 1\r", b"open \xff", b"\xffopen 1", b"open 0x1", b"start 4294967296 1", b"start -1 1",
@@ -32,6 +32,10 @@ const BAD_LINES: [&[u8]; 109] = [
     b"insall 1 65536 2 4 0 0 0 0", b"delall 1 -7 2 4 0 0 0 0",
     b"mend 0 0", b"mend 0 0 0 0", b"mend 0 61 0", b"mend 0 0 66001", b"mend 0 0 4294967296",
     b"rule", b"rule 0", b"rule 3", b"rule 1 1",
+    b"levels 1", b"levels ", b" levels", b"Levels", b"level", b"level 4", b"level 3 0", b"level 15 0",
+    b"level 0 0", b"level 255 0", b"level 256 0", b"level 4 4294967296", b"level 4 -1", b"level -4 1",
+    b"level 04 1", b"level 4 0 0", b"spoken", b"spoken -1", b"spoken 4294967296", b"spoken 1 1",
+    b"spoken 00", b"spokens 1",
     b"help ", b" help", b"help 1", b"Help", b"helps", b"show ", b"show 1", b"show\r",
 ];
 
@@ -48,50 +52,54 @@ fn what_is_no_command_is_answered_by_a_question_mark() {
     }
 }
 
+/// Lines with numbers at the ends of their types, and their answers.
+const GOOD_LINES: [(&str, &str); 18] = [
+    ("open 255", "reply 1 answer 0 holder 0 sheet 0 turns 0"),
+    (
+        "address 2 255 -2147483648 2147483647",
+        "reply 5 key 0 turns 0",
+    ),
+    (
+        "address 255 255 -2147483648 2147483647",
+        "reply 14 key 0 turns 0",
+    ),
+    (
+        "address 2 4 -2147483648 0",
+        "reply 0 key 1073741824 turns -134217728",
+    ),
+    (
+        "address 2 4 2147483647 0",
+        "reply 0 key 1073987584 turns 134217727",
+    ),
+    (
+        "insall 255 65535 255 255 -2147483648 2147483647 -2147483648 2147483647",
+        "reply 1 holder 0 sheet 0 turns 0 0",
+    ),
+    ("read 4294967295", "end"),
+    ("tiles 4294967295", "ok"),
+    ("operations 4294967295", "ok"),
+    ("journal 4294967295", "ok"),
+    ("level 4 4294967295", "ok"),
+    ("spoken 4294967295", "ok"),
+    ("lend 5000 1200 66000", "lent 5000 1200 66000"),
+    ("tile 4999 4294967295", "ok"),
+    ("entry 1199 18446744073709551615", "ok"),
+    ("byte 65999 255", "ok"),
+    ("mark 63 1", "ok"),
+    ("lend 0 0 0", "lent 0 0 0"),
+];
+
 #[test]
 fn numbers_at_the_end_of_their_types_are_numbers() {
-    let good = [
-        ("open 255", "reply 1 answer 0 holder 0 sheet 0 turns 0"),
-        (
-            "address 2 255 -2147483648 2147483647",
-            "reply 5 key 0 turns 0",
-        ),
-        (
-            "address 255 255 -2147483648 2147483647",
-            "reply 14 key 0 turns 0",
-        ),
-        (
-            "address 2 4 -2147483648 0",
-            "reply 0 key 1073741824 turns -134217728",
-        ),
-        (
-            "address 2 4 2147483647 0",
-            "reply 0 key 1073987584 turns 134217727",
-        ),
-        (
-            "insall 255 65535 255 255 -2147483648 2147483647 -2147483648 2147483647",
-            "reply 1 holder 0 sheet 0 turns 0 0",
-        ),
-        ("read 4294967295", "end"),
-        ("tiles 4294967295", "ok"),
-        ("operations 4294967295", "ok"),
-        ("journal 4294967295", "ok"),
-        ("lend 5000 1200 66000", "lent 5000 1200 66000"),
-        ("tile 4999 4294967295", "ok"),
-        ("entry 1199 18446744073709551615", "ok"),
-        ("byte 65999 255", "ok"),
-        ("mark 63 1", "ok"),
-        ("lend 0 0 0", "lent 0 0 0"),
-    ];
     let mut console = Console::new();
-    for (line, due) in good {
+    for (line, due) in GOOD_LINES {
         assert_eq!(console.answer(line.as_bytes()), due, "{}", line);
     }
 }
 
 #[test]
 fn what_stands_after_the_last_line_feed_is_not_answered() {
-    assert_eq!(talk("sum\nsum"), "sum 1\n");
+    assert_eq!(talk("sum\nsum"), "sum 623557158\n");
     assert_eq!(talk("sum"), "");
     assert_eq!(talk(""), "");
     assert_eq!(talk("\n\n"), "?\n?\n");
@@ -116,7 +124,8 @@ fn help_names_every_command() {
         assert!(parse(command.as_bytes()).is_some(), "{}", command);
     }
     let words = "lend start open commit abort ins del mem insall delall address read replay mend \
-                 sum show help tile entry byte tiles operations journal mark rule";
+                 levels sum show help tile entry byte tiles operations journal mark rule level \
+                 spoken";
     for word in words.split(' ') {
         let named = commands
             .iter()
@@ -142,7 +151,8 @@ fn show_shows_the_tables_and_changes_nothing() {
         console.answer(line.as_bytes());
     }
     let before = console.clone();
-    let due = "rule 2, open jobs: 1 2\ntiles: 2 of 3\n  4/15/5\n  7, which is no key\n\
+    let due = "rule 2, open jobs: 1 2\nlevels 1 0 0 0 0 0 0 0 0 0 0 spoken 0\n\
+               tiles: 2 of 3\n  4/15/5\n  7, which is no key\n\
                operations: 1 of 3\n  sheet 7 kind 1 job 1 key 1073987589\njournal: 23 of 60\n\
                \x20 at 0: rule 2\n  at 4: open 1\n  at 8: sheeted 1 1 1 1073987589 7\n\
                \x20 at 20: cut";

@@ -67,6 +67,7 @@ fn a_mend_leaves_the_session_alone() {
         commit 1 => reply 1 answer 0 holder 0 sheet 0 turns 0
         tiles 0 => ok
         operations 0 => ok
+        level 4 0 => ok
         commit 1 => reply 0 answer 0 holder 0 sheet 0 turns 0
         read 20 => commit 1 next 24",
         sum_of(&output)
@@ -76,12 +77,27 @@ fn a_mend_leaves_the_session_alone() {
 #[test]
 fn the_sum_runs_over_everything() {
     let input = "lend 2 1 2\nmark 63 1\nmark 0 1\ntiles 7\noperations 8\njournal 9\nrule 2\n\
+                 level 4 11\nlevel 5 4294967295\nlevel 13 14\nlevel 14 15\nspoken 16\n\
                  tile 0 4294967295\ntile 1 3\nentry 0 18446744073709551615\nbyte 1 255\nsum\n";
     let mut numbers: Vec<u128> = vec![0; 64];
     numbers[0] = 1;
     numbers[63] = 1;
     numbers.extend([7, 8, 9, 2]);
+    numbers.extend([11, 4_294_967_295, 0, 0, 0, 0, 0, 0, 0, 14, 15, 16]);
     numbers.extend([4_294_967_295, 3, 18_446_744_073_709_551_615, 0, 255]);
     let due = sum_of(&numbers);
     assert!(talk(input).ends_with(&format!("ok\nsum {}\n", due)));
+}
+
+/// Each kept count has a place of its own in the sum, between the rule and the tiles.
+#[test]
+fn each_kept_count_is_in_the_sum() {
+    let levels = (4..=14).map(|zoom| format!("level {} 5", zoom));
+    for (place, line) in levels.chain(["spoken 5".to_string()]).enumerate() {
+        let mut numbers: Vec<u128> = vec![0; 64 + 3 + 1 + 12 + 2];
+        numbers[67] = 1;
+        numbers[68 + place] = 5;
+        let due = format!("lent 2 0 0\nok\nsum {}\n", sum_of(&numbers));
+        assert_eq!(talk(&format!("lend 2 0 0\n{}\nsum\n", line)), due);
+    }
 }

@@ -11,9 +11,10 @@ use second::soundness::requirements_of;
 use second::talk::answers;
 use std::collections::BTreeSet;
 
-/// These seeds leave out the script that fills the largest tables, which is slow in a test build.
-const SEEDS: std::ops::Range<u64> = 6..37;
-const LINES: usize = 3000;
+/// What is compared where nothing else is asked for: one round of scripts, which has every sort of
+/// them, and some rounds of journals.
+const SEEDS: std::ops::Range<u64> = 1..33;
+const LINES: usize = 2000;
 const JOURNALS: u64 = 4 * KINDS;
 
 fn census() -> Counts {
@@ -21,7 +22,7 @@ fn census() -> Counts {
     for seed in SEEDS {
         count_script(&mut counts, seed, LINES);
     }
-    for seed in 0..JOURNALS {
+    for seed in 1..JOURNALS {
         count_journal(&mut counts, seed);
     }
     counts
@@ -51,12 +52,13 @@ const REPLIES: [(&str, &[u8]); 20] = [
     ("printed 2", &[0, 10, 11, 12]),
 ];
 
-const OTHER_ANSWERS: [(&str, &str); 14] = [
+const OTHER_ANSWERS: [(&str, &str); 15] = [
     ("any line", "?"),
     ("lend", "?"),
     ("replay 1", "?"),
     ("mend 1", "?"),
     ("change", "?"),
+    ("levels", "levels"),
     ("read", "open"),
     ("read", "operation"),
     ("read", "sheeted"),
@@ -139,7 +141,7 @@ fn meetings_of_editions(text: &[u8]) -> usize {
 #[test]
 fn both_editions_name_the_same_tiles_in_every_script() {
     for seed in 120..130 {
-        let meetings = meetings_of_editions(&script(seed, LINES));
+        let meetings = meetings_of_editions(&script(seed, 2 * LINES));
         assert!(meetings > 20, "seed {}: {}", seed, meetings);
     }
 }

@@ -1,5 +1,5 @@
 //! Ending jobs in another order: every order of the same commits and aborts leaves the same tiles,
-//! operations, marks and counts, and journals that differ in the order of the end records alone.
+//! operations, marks and counts, those of the levels among them, and journals that differ in the order of the end records alone.
 
 mod common;
 
@@ -90,14 +90,15 @@ fn left_by(before: &Bench, order: &[End]) -> Bench {
     after
 }
 
-/// Compares every order of every group of ends; gives how many orders there were.
-fn compare_orders(before: &Bench) -> usize {
+/// Compares every order of every group of ends; gives how many orders there were, and how many of
+/// them moved the counts of levels and of places spoken for.
+fn compare_orders(before: &Bench) -> (usize, usize) {
     let marks = (0u8..).zip(before.session.open.iter());
     let open: Vec<u8> = marks
         .filter(|(_, mark)| **mark)
         .map(|(job, _)| job)
         .collect();
-    let mut compared = 0;
+    let (mut compared, mut moved) = (0, 0);
     for ends in groups_of_ends(&open) {
         let due = left_by(before, &ends);
         for order in orders(&ends) {
@@ -106,9 +107,12 @@ fn compare_orders(before: &Bench) -> usize {
             assert_eq!(after.tables.tiles, due.tables.tiles);
             assert_eq!(after.tables.operations, due.tables.operations);
             compared += 1;
+            let (levels, spoken) = before.kept_counts();
+            let moves = after.session.levels != levels && after.session.spoken != spoken;
+            moved += usize::from(moves);
         }
     }
-    compared
+    (compared, moved)
 }
 
 /// Whether two jobs have entries on one tile, one of which changed it: there an order could
@@ -137,14 +141,17 @@ fn last_session(rule: Rule, seed: u64) -> (Bench, bool) {
 #[test]
 fn sessions_reached_by_calls() {
     for rule in RULES {
-        let (mut orders, mut shared, mut with_rectangles) = (0, 0, 0);
+        let (mut orders, mut moved, mut shared, mut with_rectangles) = (0, 0, 0, 0);
         for seed in 1000..1000 + HISTORIES {
             let (bench, swept) = last_session(rule, seed);
-            orders += compare_orders(&bench);
+            let (compared, moving) = compare_orders(&bench);
+            orders += compared;
+            moved += moving;
             shared += usize::from(is_shared(&bench));
             with_rectangles += usize::from(swept);
         }
         assert!(orders > 10_000, "{}", orders);
+        assert!(moved > 1000, "{}", moved);
         assert!(shared > 5, "{}", shared);
         assert!(with_rectangles > 20, "{}", with_rectangles);
     }

@@ -174,7 +174,7 @@ fn a_line_is_answered_where_a_buffer_ends() {
         line[length - 5..].copy_from_slice(b"\nsum\n");
         console.write(&line);
         assert_eq!(console.read(), "?", "{}", length);
-        assert_eq!(console.read(), "sum 1", "{}", length);
+        assert_eq!(console.read(), "sum 623557158", "{}", length);
     }
 }
 

@@ -16,7 +16,7 @@ use second::rule::RULES;
 use second::soundness::{broken, sheet_of};
 use std::collections::BTreeMap;
 
-const WORLDS: usize = 30_000;
+const WORLDS: usize = 40_000;
 const HISTORIES: usize = 400;
 
 #[derive(Clone, Copy, Debug)]

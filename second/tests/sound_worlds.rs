@@ -3,6 +3,7 @@
 
 mod common;
 
+use common::counts::Counts;
 use common::tables::{damage, some_address, some_bench};
 use common::*;
 use second::address::Address;
@@ -142,6 +143,26 @@ fn check_effects(before: &Bench, after: &Bench, new: u64, procedure: Procedure, 
     assert_eq!(after.journal(), [before.journal(), &record].concat());
     assert_eq!(after.session.open, before.session.open);
     assert_eq!(after.session.rule, before.session.rule);
+    assert_eq!(after.kept_counts(), moved_counts(before, new));
+}
+
+/// The counts that an accepted operation leaves: a tile that comes or goes counts on its own level,
+/// a place is spoken for where a tile goes, and is not any more where its tile is put back.
+fn moved_counts(before: &Bench, new: u64) -> Counts {
+    let (mut levels, mut spoken) = before.kept_counts();
+    let level = (key_of(new) >> 28) as usize - 4;
+    match kind_of(new) {
+        1 => {
+            levels[level] += 1;
+            spoken -= u32::from(deleted(before).contains(&key_of(new)));
+        }
+        3 => {
+            levels[level] -= 1;
+            spoken += 1;
+        }
+        _ => {}
+    }
+    (levels, spoken)
 }
 
 #[test]
@@ -205,6 +226,7 @@ fn aborts_undo_the_newest_first() {
         assert_eq!(bench.abort(0), DONE);
         assert!(bench.keys().iter().eq(&tiles));
         assert_eq!(bench.entries(), others);
+        assert_eq!(bench.kept_counts(), bench.due_counts());
         assert_eq!(bench.journal(), [before.journal(), &[4, 0, 1, 0]].concat());
         let changes = |entry: &&u64| is_change(**entry);
         let keys: Vec<u32> = own

@@ -94,7 +94,10 @@ fn a_line_of_any_length_is_answered_by_one_line() {
             ]
             .concat();
             for size in [256, 65_536, text.len()] {
-                assert_eq!(in_pieces(&text, size), b"sum 1\n?\nsum 1\n?\nend\n");
+                assert_eq!(
+                    in_pieces(&text, size),
+                    b"sum 623557158\n?\nsum 623557158\n?\nend\n"
+                );
             }
         }
     }

@@ -5,10 +5,8 @@ use crate::address::Address;
 use crate::occasions::named::{applying, names_of, Named};
 use crate::occasions::places::{Place, ADDRESS, OPERATION, RECTANGLE};
 use crate::rectangle::Rectangle;
-use crate::tile::side_of;
-use std::ops::RangeInclusive;
+use crate::tile::{side_of, ZOOMS};
 
-const LEVELS: RangeInclusive<u8> = 4..=14;
 const CALLS: [&str; 3] = [ADDRESS, OPERATION, RECTANGLE];
 
 /// Bytes that stand for no edition.
@@ -180,7 +178,7 @@ pub fn all_names() -> Vec<String> {
         .chain(names_of(&EMPTY_RECTANGLES))
         .chain(names_of(&NO_RECTANGLES))
         .collect();
-    for zoom in LEVELS {
+    for zoom in ZOOMS {
         for edition in [1, 2] {
             names.extend(on_level(ADDRESS, edition, zoom, &rows));
             names.extend(on_level(OPERATION, edition, zoom, &rows));

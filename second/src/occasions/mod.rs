@@ -4,6 +4,8 @@
 
 mod editions;
 mod forms;
+mod handled_counts;
+mod kept_counts;
 mod listed;
 mod mending;
 mod named;
@@ -13,12 +15,16 @@ mod rectangles;
 mod rooms;
 mod sheets;
 mod turns;
+mod wrong_counts;
 
 use crate::console::Console;
 use crate::line::Command;
 use listed::{listed, Listed};
 use named::{applying, name_of_call, names_of};
 use places::{place_of, OPERATION, RECTANGLE};
+
+pub use kept_counts::Before;
+pub use places::call_on_session;
 
 /// The occasions that a command is, on the console as it stands.
 pub fn occasions(console: &Console, command: Command) -> Vec<String> {
@@ -58,6 +64,24 @@ pub fn occasions_told(command: Command, number: u8) -> Vec<String> {
     })
 }
 
+/// What a command has to do with the kept counts, by how the session stood before it and by the
+/// number that it is answered.
+pub fn occasions_of_counts(
+    before: &Before,
+    console: &Console,
+    command: Command,
+    number: Option<u8>,
+) -> Vec<String> {
+    let handled = handled_counts::known(before.session(), console, command, number);
+    let names = applying(&handled_counts::NAMED, handled).into_iter();
+    let of_call = match number {
+        Some(0) => kept_counts::done(before, console, command),
+        Some(1) => wrong_counts::refused(console, command),
+        _ => Vec::new(),
+    };
+    names.map(str::to_string).chain(of_call).collect()
+}
+
 pub fn all_names() -> impl Iterator<Item = String> {
     let of_calls = [OPERATION, RECTANGLE].into_iter().flat_map(|call| {
         let names = names_of(&rooms::NAMED).chain(names_of(&sheets::NAMED));
@@ -66,9 +90,12 @@ pub fn all_names() -> impl Iterator<Item = String> {
     names_of(&own_tiles::NAMED)
         .chain(names_of(&rectangles::SHAPES))
         .chain(names_of(&mending::NAMED))
+        .chain(names_of(&handled_counts::NAMED))
         .map(str::to_string)
         .chain(of_calls)
         .chain(turns::all_names())
         .chain(editions::all_names())
         .chain(forms::all_names())
+        .chain(kept_counts::all_names())
+        .chain(wrong_counts::all_names())
 }

@@ -86,7 +86,7 @@ fn operation(state: &State, job: u8, procedure: Procedure, tile: Tile) -> Known 
     Known::Operation {
         own: changes_of(state, job).contains(&tile),
         inserts: procedure == Procedure::Insert && !state.tiles.contains(&tile),
-        full: state.places_spoken_for() == state.tile_places,
+        full: state.places_taken() == state.tile_places,
     }
 }
 

@@ -81,7 +81,7 @@ pub fn known(console: &Console, listed: &Listed) -> Option<Rooms> {
     Some(Rooms {
         tiles: Room {
             needed: state.places_needed(&wanted),
-            free: state.tile_places - state.places_spoken_for(),
+            free: state.tile_places - state.places_taken(),
         },
         entries: Room {
             needed: wanted.len(),

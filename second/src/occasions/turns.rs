@@ -5,10 +5,8 @@ use crate::address::Address;
 use crate::occasions::named::{applying, names_of, Named};
 use crate::occasions::places::{Place, ADDRESS, OPERATION, RECTANGLE};
 use crate::rectangle::Rectangle;
-use crate::tile::side_of;
+use crate::tile::{side_of, ZOOMS};
 use std::ops::RangeInclusive;
-
-const LEVELS: RangeInclusive<u8> = 4..=14;
 
 const FIRST_COLUMN: i64 = i32::MIN as i64;
 const LAST_COLUMN: i64 = i32::MAX as i64;
@@ -141,7 +139,7 @@ fn name_kept_back(call: &str, number: u8) -> String {
 
 pub fn all_names() -> Vec<String> {
     let mut names = Vec::new();
-    for zoom in LEVELS {
+    for zoom in ZOOMS {
         let columns: Vec<&str> = names_of(&COLUMNS).collect();
         names.extend(on_level(ADDRESS, zoom, &columns));
         names.extend(on_level(OPERATION, zoom, &columns));

@@ -20,7 +20,7 @@ type Form = (&'static str, &'static [Type]);
 const OPERATION: [Type; 6] = [Small, Sheet, Small, Small, Signed, Signed];
 const RECTANGLE: [Type; 8] = [Small, Sheet, Small, Small, Signed, Signed, Signed, Signed];
 
-const FORMS: [Form; 23] = [
+const FORMS: [Form; 26] = [
     ("lend", &[Count, Count, Count]),
     ("start", &[Count, Small]),
     ("open", &[Small]),
@@ -35,6 +35,7 @@ const FORMS: [Form; 23] = [
     ("read", &[Count]),
     ("replay", &[Count, Count]),
     ("mend", &[Count, Count, Count]),
+    ("levels", &[]),
     ("sum", &[]),
     ("tile", &[Count, Count]),
     ("entry", &[Count, Entry]),
@@ -44,17 +45,20 @@ const FORMS: [Form; 23] = [
     ("journal", &[Count]),
     ("mark", &[Small, Small]),
     ("rule", &[Small]),
+    ("level", &[Small, Count]),
+    ("spoken", &[Count]),
 ];
 
-const UNKNOWN_WORDS: [&str; 18] = [
+const UNKNOWN_WORDS: [&str; 21] = [
     "Open", "OPEN", "opens", "ope", "insert", "quit", "summ", "su", "tile1", "-", "?", "memall",
-    "insal", "delalls", "Help", "helps", "shows", "sho",
+    "insal", "delalls", "Help", "helps", "shows", "sho", "Levels", "leve", "speak",
 ];
 
 /// The two commands whose answers are not compared are only written as something else.
 const NO_PICTURES: [&str; 6] = ["help ", " help", "help 0", "show ", " show", "show 1"];
 
 const NO_RULES: [u8; 4] = [0, 3, 4, 255];
+const NO_ZOOMS: [u8; 6] = [0, 3, 15, 16, 127, 255];
 
 const ODD_NUMBERS: [&str; 22] = [
     "",
@@ -202,14 +206,15 @@ fn odd_bytes(random: &mut Random) -> Vec<u8> {
     line
 }
 
-/// The first place that is not lent, or a job, bit, rule or length that the command does not take.
+/// The first place that is not lent, or a job, bit, rule, zoom or length that the command does not
+/// take.
 fn place_not_lent(random: &mut Random, tables: &Tables) -> String {
     let (tiles, operations, journal) = (
         tables.tiles.len(),
         tables.operations.len(),
         tables.journal.len(),
     );
-    match random.below(16) {
+    match random.below(18) {
         0 => format!("tile {} 0", tiles),
         1 => format!("entry {} 0", operations),
         2 => format!("byte {} 0", journal),
@@ -225,6 +230,7 @@ fn place_not_lent(random: &mut Random, tables: &Tables) -> String {
         10 => "lend 1 1201 1".to_string(),
         11 => format!("start 0 {}", random.pick(&NO_RULES)),
         12 => format!("rule {}", random.pick(&NO_RULES)),
+        15..=16 => format!("level {} 1", random.pick(&NO_ZOOMS)),
         _ => "lend 1 1 66001".to_string(),
     }
 }

@@ -1,10 +1,11 @@
 //! Breaks sound tables, one requirement of soundness at a time, and mends them again.
 
 use crate::rule::RULES;
-use crate::scripts::addresses::Pool;
+use crate::scripts::addresses::{Pool, LEVELS};
 use crate::scripts::calls;
 use crate::scripts::damage::Damage;
 use crate::scripts::writer::Writer;
+use crate::scripts::wrong_counts::{wrong_level, wrong_spoken};
 use crate::scripts::wrong_entries;
 use crate::scripts::wrong_tiles;
 use crate::session::length_of;
@@ -12,8 +13,7 @@ use crate::soundness::{requirements_of, Requirement};
 
 /// Breaks a requirement, makes some calls, mends it, and makes some more.
 pub fn break_a_requirement(writer: &mut Writer, pool: &Pool) {
-    let asked: Vec<Requirement> = requirements_of(writer.console.session.rule).collect();
-    let requirement = writer.random.pick(&asked);
+    let requirement = some_requirement(writer);
     let damage = match writer.random.below(30) {
         0..=1 => Some(other_rule(writer)),
         2..=3 => wrong_entries::other_sheet(writer),
@@ -29,12 +29,34 @@ pub fn break_a_requirement(writer: &mut Writer, pool: &Pool) {
     if requirement == Requirement::JournalCount {
         calls::read_here_and_there(writer, 4);
     }
+    if !is_of_count(requirement) && !writer.random.one_in(4) {
+        // Nothing else shall be wrong.
+        writer.count_anew();
+    }
     let refused_calls = writer.random.between(1, 4);
     calls::run(writer, pool, refused_calls);
     for line in damage.mending.iter().rev() {
         writer.tell(line);
     }
+    writer.count_anew();
     calls::run(writer, pool, 2);
+}
+
+/// One of the levels beside the others, which would else be most of all requirements.
+fn some_requirement(writer: &mut Writer) -> Requirement {
+    let level = Requirement::LevelCount(writer.random.pick(&LEVELS));
+    let is_other_level =
+        |one: &Requirement| matches!(one, Requirement::LevelCount(_)) && *one != level;
+    let asked = requirements_of(writer.console.session.rule);
+    let asked: Vec<Requirement> = asked.filter(|one| !is_other_level(one)).collect();
+    writer.random.pick(&asked)
+}
+
+fn is_of_count(requirement: Requirement) -> bool {
+    matches!(
+        requirement,
+        Requirement::LevelCount(_) | Requirement::SpokenCount
+    )
 }
 
 /// Tables that are sound by one rule may not be so by the other.
@@ -49,17 +71,8 @@ fn damage_to(writer: &mut Writer, requirement: Requirement) -> Option<Damage> {
     let (session, tables) = (&writer.console.session, &writer.console.tables);
     match requirement {
         Requirement::TileLength | Requirement::OperationLength | Requirement::JournalLength => None,
-        Requirement::TileCount => {
-            let (used, length) = (session.tiles, tables.tiles.len());
-            Some(pass_length(writer, "tiles", used, length))
-        }
-        Requirement::OperationCount => {
-            let (used, length) = (session.operations, tables.operations.len());
-            Some(pass_length(writer, "operations", used, length))
-        }
-        Requirement::JournalCount => {
-            let (used, length) = (session.journal, tables.journal.len());
-            Some(pass_length(writer, "journal", used, length))
+        Requirement::TileCount | Requirement::OperationCount | Requirement::JournalCount => {
+            Some(pass_length(writer, requirement))
         }
         Requirement::TileKey => wrong_tiles::wrong_key(writer),
         Requirement::TileOrder => wrong_tiles::wrong_order(writer),
@@ -81,10 +94,19 @@ fn damage_to(writer: &mut Writer, requirement: Requirement) -> Option<Damage> {
         Requirement::OneJobOnward => wrong_entries::other_job(writer),
         Requirement::TileRoom => wrong_entries::one_removed_too_many(writer),
         Requirement::JournalRoom => too_little_journal(writer),
+        Requirement::LevelCount(zoom) => Some(wrong_level(writer, zoom)),
+        Requirement::SpokenCount => Some(wrong_spoken(writer)),
     }
 }
 
-fn pass_length(writer: &mut Writer, word: &str, used: u32, length: usize) -> Damage {
+/// A count of used places past the length of their table.
+fn pass_length(writer: &mut Writer, requirement: Requirement) -> Damage {
+    let (session, tables) = (&writer.console.session, &writer.console.tables);
+    let (word, used, length) = match requirement {
+        Requirement::TileCount => ("tiles", session.tiles, tables.tiles.len()),
+        Requirement::OperationCount => ("operations", session.operations, tables.operations.len()),
+        _ => ("journal", session.journal, tables.journal.len()),
+    };
     let far = writer.random.pick(&[65_537, 2_147_483_648, 4_294_967_295]);
     let wrong = writer
         .random

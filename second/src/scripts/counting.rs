@@ -8,8 +8,7 @@ use crate::scripts::spelling::address_line;
 use crate::scripts::sweeping::sweep_alone;
 use crate::scripts::writer::Writer;
 
-pub fn episode(writer: &mut Writer) {
-    let zoom = writer.next_level();
+pub fn on_level(writer: &mut Writer, zoom: u8) {
     let editions = [1, 2, no_edition(&mut writer.random)];
     // Room for the highest rectangle.
     writer.lend(260, 260, 3200);

@@ -6,6 +6,7 @@ use crate::scripts::breaking;
 use crate::scripts::calls;
 use crate::scripts::counting;
 use crate::scripts::filling;
+use crate::scripts::keeping;
 use crate::scripts::mending;
 use crate::scripts::nowhere;
 use crate::scripts::replacing;
@@ -19,14 +20,14 @@ use crate::session::length_of;
 type Episode = fn(&mut Writer);
 
 /// Every sort of episode, and how often it comes beside the others.
-const EPISODES: [(usize, Episode); 23] = [
+const EPISODES: [(usize, Episode); 24] = [
     (130, side_by_side),
     (65, small_journal),
     (95, from_nowhere),
-    (160, broken_tables),
+    (240, broken_tables),
     (40, wild_damage),
     (45, replays::episode),
-    (35, replays::foreign_journal),
+    (80, replays::foreign_journal),
     (110, limits),
     (10, only_bad_lines),
     (7, crowd),
@@ -40,9 +41,10 @@ const EPISODES: [(usize, Episode); 23] = [
     (60, sweeping::held),
     (8, sweeping::on_many_tiles),
     (25, sweeping::edges),
-    (80, turning::episode),
-    (80, counting::episode),
+    (100, round_a_level),
     (4, mending::at_the_most_bytes),
+    (50, keeping::episode),
+    (15, keeping::refused_starts),
 ];
 
 pub fn episode(writer: &mut Writer) {
@@ -54,6 +56,13 @@ pub fn episode(writer: &mut Writer) {
         }
         left -= often;
     }
+}
+
+/// Columns and rows of each level in its turn, so that none is left out.
+fn round_a_level(writer: &mut Writer) {
+    let zoom = writer.next_level();
+    turning::on_level(writer, zoom);
+    counting::on_level(writer, zoom);
 }
 
 /// Lends small tables and starts on some tiles of the pool.

@@ -105,6 +105,7 @@ pub fn fill_operations_from_outside(writer: &mut Writer) {
         writer.tell(format!("entry {} {}", place, entry));
     }
     writer.tell(format!("operations {}", used));
+    writer.count_anew();
     writer.tell("open 7");
     run_through(writer, "ins", 7, 0);
     writer.tell("sum");

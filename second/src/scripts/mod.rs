@@ -8,6 +8,7 @@ mod counting;
 mod damage;
 mod episodes;
 mod filling;
+mod keeping;
 mod long_lines;
 mod mending;
 mod nowhere;
@@ -19,6 +20,7 @@ mod sweeping;
 mod turning;
 mod wild;
 mod writer;
+mod wrong_counts;
 mod wrong_entries;
 mod wrong_tiles;
 
@@ -56,10 +58,13 @@ fn write_episodes(writer: &mut Writer, lines: usize) {
     }
 }
 
-/// The smallest journal comes here in every round, for chance misses it in some.
+/// The smallest journal comes here in every round, for chance misses it in some; and so does every
+/// kept count, moved and made wrong on its own.
 fn write_sweeps(writer: &mut Writer) {
     sweeping::fill_largest_tables(writer);
     filling::fill_smallest_journal(writer);
+    keeping::move_every_level(writer);
+    keeping::make_every_count_wrong(writer);
 }
 
 /// Behind each very long line the others are answered as before.

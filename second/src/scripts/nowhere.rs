@@ -8,7 +8,7 @@ use crate::scripts::addresses::Pool;
 use crate::scripts::writer::Writer;
 use crate::session::{MOST_OPERATIONS, MOST_TILES};
 use crate::state::State;
-use crate::tile::Tile;
+use crate::tile::{Tile, LEVELS_SERVED};
 
 const JOBS: [u8; 7] = [0, 1, 2, 3, 31, 62, 63];
 
@@ -82,14 +82,18 @@ fn some_state(random: &mut Random, pool: &Pool) -> State {
     jobs.retain(|_| random.one_in(2));
     jobs.push(5);
     let admitted = some_entries(random, rule, &jobs, &pool.tiles());
-    State {
+    let mut state = State {
         rule,
         tiles: fitting_tiles(random, &admitted, pool).into_iter().collect(),
         tile_places: MOST_TILES,
         admitted,
         operation_places: MOST_OPERATIONS,
         open: jobs.into_iter().collect(),
-    }
+        levels: [0; LEVELS_SERVED],
+        spoken: 0,
+    };
+    state.count_anew();
+    state
 }
 
 /// Lends tables and puts a sound session into them, often with no place to spare.
@@ -97,7 +101,7 @@ pub fn put_sound_session(writer: &mut Writer, pool: &Pool) {
     let random = &mut writer.random;
     let state = some_state(random, pool);
     let spare = random.pick(&[0, 0, 1, 1, 2, 5]);
-    let places = (state.places_spoken_for() + spare).max(1);
+    let places = (state.places_taken() + spare).max(1);
     let operations = (state.admitted.len() + random.pick(&[0, 0, 1, 2, 6])).max(1);
     let used = random.below(40);
     let endings = 4 * state.open.len();
@@ -118,6 +122,7 @@ fn put_parts(writer: &mut Writer, state: &State) {
         writer.tell(format!("entry {} {}", place, number_of(entry)));
     }
     writer.tell(format!("operations {}", state.admitted.len()));
+    writer.count_anew();
 }
 
 /// The journal of such a session may hold anything.

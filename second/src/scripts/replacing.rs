@@ -56,9 +56,11 @@ fn damage_and_mend(writer: &mut Writer, entries: &[u64], tiles: usize) {
     let place = writer.random.below(entries.len());
     let wrong = altered(&mut writer.random, entries[place], tiles);
     writer.tell(format!("entry {} {}", place, wrong));
+    writer.count_anew();
     // Refused by 1 where the damage matters, and else by 4: nothing else changes the tables.
     writer.tell(format!("open {}", OTHER));
     writer.tell(format!("entry {} {}", place, entries[place]));
+    writer.count_anew();
 }
 
 pub fn episode(writer: &mut Writer) {
@@ -76,6 +78,7 @@ pub fn episode(writer: &mut Writer) {
     }
     writer.tell(format!("tiles {}", tiles));
     writer.tell(format!("operations {}", entries.len()));
+    writer.count_anew();
     for _ in 0..writer.random.between(10, 30) {
         damage_and_mend(writer, &entries, tiles);
     }

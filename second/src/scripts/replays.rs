@@ -171,8 +171,8 @@ fn turn_an_answer(writer: &mut Writer) {
 /// A journal that these tables did not write, put down byte by byte, often into too small tables.
 pub fn foreign_journal(writer: &mut Writer) {
     let bytes = short_journal(&mut writer.random);
-    let tiles = writer.random.pick(&[1, 2, 3, 20]);
-    let operations = writer.random.pick(&[1, 2, 3, 5, 100]);
+    let tiles = writer.random.pick(&[1, 2, 3, 20, 20]);
+    let operations = writer.random.pick(&[1, 2, 5, 100, 100]);
     let journal = bytes.len() + writer.random.pick(&[0, 1, 4, 5, 80, 80]);
     writer.lend(tiles, operations, journal);
     for (place, byte) in bytes.iter().enumerate() {

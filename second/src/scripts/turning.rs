@@ -9,8 +9,7 @@ use crate::scripts::spelling::address_line;
 use crate::scripts::sweeping::sweep_alone;
 use crate::scripts::writer::Writer;
 
-pub fn episode(writer: &mut Writer) {
-    let zoom = writer.next_level();
+pub fn on_level(writer: &mut Writer, zoom: u8) {
     // Room for the largest rectangle.
     writer.lend(260, 260, 3200);
     writer.start(0);

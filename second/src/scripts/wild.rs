@@ -2,22 +2,27 @@
 
 use crate::journals::some_sheet;
 use crate::rule::RULES;
-use crate::scripts::addresses::Pool;
+use crate::scripts::addresses::{Pool, LEVELS};
 use crate::scripts::nowhere::{entry_number, with_sheet};
 use crate::scripts::writer::Writer;
+use crate::scripts::wrong_counts::Kept;
 use crate::scripts::wrong_tiles::no_key;
 
 pub fn put_numbers_anywhere(writer: &mut Writer, pool: &Pool) {
     for _ in 0..writer.random.between(1, 4) {
-        let line = match writer.random.below(11) {
+        let line = match writer.random.below(13) {
             0..=2 => wild_count_line(writer),
             3..=4 => wild_tile_line(writer, pool),
             5..=6 => wild_entry_line(writer, pool),
             7 => wild_byte_line(writer),
             8 => format!("rule {}", writer.random.pick(&RULES).number()),
+            9..=10 => wild_kept_line(writer),
             _ => wild_mark_line(writer),
         };
         writer.tell(line);
+    }
+    if writer.random.one_in(2) {
+        writer.count_anew();
     }
     writer.look();
 }
@@ -33,6 +38,15 @@ fn wild_count_line(writer: &mut Writer) -> String {
     let near = writer.random.below(length + 2);
     let choices = [near, near, near, 0, length, 4_294_967_295];
     format!("{} {}", word, writer.random.pick(&choices))
+}
+
+fn wild_kept_line(writer: &mut Writer) -> String {
+    let kept = match writer.random.below(2) {
+        0 => Kept::Level(writer.random.pick(&LEVELS)),
+        _ => Kept::Spoken,
+    };
+    let stray = writer.random.word();
+    kept.line(writer.random.pick(&[0, 1, 1, 2, 3, u32::MAX, stray]))
 }
 
 fn wild_tile_line(writer: &mut Writer, pool: &Pool) -> String {

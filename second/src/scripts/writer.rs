@@ -10,6 +10,8 @@ use crate::rule::{Rule, RULES};
 use crate::scripts::addresses::LEVELS;
 use crate::scripts::bad_lines;
 use crate::scripts::spelling::{operation_line, rectangle_line};
+use crate::scripts::wrong_counts::Kept;
+use crate::soundness::fresh_counts;
 use crate::tile::Tile;
 
 /// Tables with more numbers than this are summed up rarely.
@@ -61,10 +63,13 @@ impl Writer {
         self.console.answer(line.as_ref())
     }
 
-    /// Now and then a bad line; then, mostly, a look at the whole content.
+    /// Now and then a bad line and the kept counts; then, mostly, a look at the whole content.
     pub fn look(&mut self) {
         if self.random.one_in(12) {
             self.tell_bad_line();
+        }
+        if self.random.one_in(4) {
+            self.tell("levels");
         }
         self.sum_mostly();
     }
@@ -124,6 +129,17 @@ impl Writer {
             self.tell(format!("tile {} {}", place, tile.key()));
         }
         tiles.len()
+    }
+
+    /// Sets each kept count that is not what a fresh count gives.
+    pub fn count_anew(&mut self) {
+        let (levels, spoken) = fresh_counts(&self.console.session, &self.console.tables);
+        let of_levels = LEVELS.map(Kept::Level).into_iter().zip(levels);
+        for (kept, fresh) in of_levels.chain([(Kept::Spoken, spoken)]) {
+            if kept.of(&self.console.session) != fresh {
+                self.tell(kept.line(fresh));
+            }
+        }
     }
 
     /// Half of the scripts end in something that is not a line.

@@ -36,15 +36,18 @@ fn some_entry(writer: &mut Writer) -> Option<(usize, u64)> {
     entries.get(place).map(|entry| (place, *entry))
 }
 
+/// Whether no later entry of a sort has the tile of that one.
+fn is_last_of(entries: &[u64], place: usize, is_of_sort: fn(u64) -> bool) -> bool {
+    let mut later = entries[place + 1..].iter();
+    !later.any(|other| is_of_sort(*other) && key_of(*other) == key_of(entries[place]))
+}
+
 /// The last change of some tile.
 fn some_last_change(writer: &mut Writer) -> Option<u64> {
     let entries = used_entries(writer);
     let last_changes: Vec<u64> = (0..entries.len())
         .filter(|place| is_change(entries[*place]))
-        .filter(|place| {
-            let mut later = entries[place + 1..].iter();
-            !later.any(|other| is_change(*other) && key_of(*other) == key_of(entries[*place]))
-        })
+        .filter(|place| is_last_of(&entries, *place, is_change))
         .map(|place| entries[place])
         .collect();
     let chosen = writer.random.below(last_changes.len());
@@ -87,7 +90,8 @@ pub fn wrong_key(writer: &mut Writer) -> Option<Damage> {
     Some(put_entry(place, wrong, entry))
 }
 
-/// An entry is called inserted (1) or deleted (3) though the table of tiles says otherwise.
+/// The last entry on a tile is called inserted (1) or deleted (3) though the table of tiles says
+/// otherwise.
 pub fn untrue_change(writer: &mut Writer, kind: u64) -> Option<Damage> {
     if writer.console.session.rule == Rule::JobAsOne && writer.random.one_in(2) {
         return change_that_never_was(writer, kind);
@@ -96,6 +100,7 @@ pub fn untrue_change(writer: &mut Writer, kind: u64) -> Option<Damage> {
     let tiles = &writer.console.tables.tiles;
     let untrue: Vec<usize> = (0..entries.len())
         .filter(|place| tiles.contains(&key_of(entries[*place])) == (kind == 3))
+        .filter(|place| is_last_of(&entries, *place, |_| true))
         .collect();
     let place = *untrue.get(writer.random.below(untrue.len()))?;
     let entry = entries[place];
@@ -165,7 +170,7 @@ pub fn one_removed_too_many(writer: &mut Writer) -> Option<Damage> {
     let (session, tables) = (&writer.console.session, &writer.console.tables);
     let state = State::decode(session, tables)?;
     let job = u64::from(state.open.iter().next().copied()?);
-    let free = state.tile_places - state.places_spoken_for();
+    let free = state.tile_places - state.places_taken();
     let first = writer.random.below(1000);
     let unknown = |tile: &Tile| {
         let named = state.admitted.iter().any(|entry| entry.tile == *tile);

@@ -1,12 +1,15 @@
 //! The journal of a history: it reads back as the calls, and cut at any byte it replays, and is
 //! mended, to what the committed jobs did.
 
+use super::counts::counts_of;
 use super::history::{Logged, Trial};
 use second::journal::{Reader, Reading, Record};
 use second::mend::mend;
-use second::replay::replay;
+use second::operation::Kind;
+use second::replay::{replay, stopped};
 use second::rule::Rule;
 use second::strictness::{run, Step, Tiles};
+use second::tile::Tile;
 use std::collections::BTreeSet;
 
 /// A journal with what its records are, and the tables that it is replayed onto.
@@ -131,6 +134,7 @@ impl Chronicle {
             let left = self.committed_at(length);
             let (mut tiles, count, mut operations) = self.tables_before();
             let journal = &self.journal[..length];
+            self.check_inside(journal, &tiles, count);
             let outcome = replay(journal, &mut tiles, count, &mut operations);
             assert_eq!(outcome.reply, 0);
             assert_eq!(outcome.offset as usize, self.offset(length));
@@ -139,6 +143,17 @@ impl Chronicle {
             assert_eq!(tiles, self.table(&left));
             assert!(operations.iter().all(|entry| *entry == 0));
         }
+    }
+
+    /// Where a replay stops, the session inside it has kept its counts.
+    fn check_inside(&self, journal: &[u8], tiles: &[u32], count: u32) {
+        let inside = stopped(journal, tiles, count, self.operation_places);
+        let state = inside.expect("tables to start on").state;
+        let entries = state.admitted.iter();
+        let deletes = entries.filter(|entry| entry.kind == Kind::Removed);
+        let deleted: Vec<Tile> = deletes.map(|entry| entry.tile).collect();
+        let due = counts_of(state.rule, &state.tiles, &deleted);
+        assert_eq!((state.levels, state.spoken), due);
     }
 
     /// Mends the journal cut at every byte into just enough room and into one byte less, and

@@ -1,5 +1,6 @@
 //! The reply to an operation by the definitions alone, and what they leave open.
 
+use super::counts::{counts_of, Counts};
 use super::history::{Done, Trial};
 use super::{held_by, refused, Told};
 use second::operation::{Origin, Procedure, Recovery};
@@ -9,6 +10,20 @@ use second::tile::Tile;
 use std::collections::BTreeSet;
 
 impl Trial {
+    /// The tiles of the unfinished deletes that took effect.
+    fn deleted(&self) -> impl Iterator<Item = Tile> + '_ {
+        let effective = |done: &&Done| done.step.recovery == Recovery::Insert(done.step.tile);
+        self.unfinished()
+            .filter(effective)
+            .map(|done| done.step.tile)
+    }
+
+    /// The counts that the session should keep, from the history alone.
+    pub fn due_counts(&self) -> Counts {
+        let deleted: Vec<Tile> = self.deleted().collect();
+        counts_of(self.rule, &self.tiles(), &deleted)
+    }
+
     /// The journal has room for everything here.
     pub fn due_reply(&mut self, job: u8, new: Step) -> Told {
         let mut with_new = self.steps();
@@ -119,12 +134,8 @@ impl Trial {
     /// of an absent tile gets 7 exactly when the count equals the places."
     fn lacks_room_by_rule_2(&self, new: Step, places: usize) -> bool {
         let tiles = self.tiles();
-        let counted: BTreeSet<Tile> = self
-            .unfinished()
-            .filter(|done| done.step.recovery == Recovery::Insert(done.step.tile))
-            .map(|done| done.step.tile)
-            .filter(|tile| !tiles.contains(tile))
-            .collect();
+        let absent = self.deleted().filter(|tile| !tiles.contains(tile));
+        let counted: BTreeSet<Tile> = absent.collect();
         let inserts = new.procedure == Procedure::Insert && !tiles.contains(&new.tile);
         inserts && !counted.contains(&new.tile) && tiles.len() + counted.len() == places
     }

@@ -63,7 +63,8 @@ pub struct Trial {
     transactions: usize,
 }
 
-/// The same few tiles in several spellings of both editions, some on both sides of the seam.
+/// The same few tiles in several spellings of both editions, some on both sides of the seam, and
+/// now and then one on another level.
 fn some_addresses(random: &mut Random) -> Vec<Address> {
     let columns = [-1, 15, 0, 16, i32::MIN, i32::MAX, 7];
     let count = random.between(2, 6);
@@ -72,7 +73,7 @@ fn some_addresses(random: &mut Random) -> Vec<Address> {
         let (edition, row) = random.pick(&[(1, 15 - row), (2, row)]);
         Address {
             edition,
-            zoom: 4,
+            zoom: random.pick(&[4, 4, 4, 4, 9]),
             column: random.pick(&columns),
             row,
         }
@@ -152,13 +153,14 @@ impl Trial {
         self.check();
     }
 
-    /// The tables are sound and have the history's tiles; the history is strict, and whatever is
-    /// dropped of it fits into the places.
+    /// The tables are sound and have the history's tiles and counts; the history is strict, and
+    /// whatever is dropped of it fits into the places.
     fn check(&self) {
         assert!(self.bench.is_sound());
         let keys = self.bench.keys().iter();
         let tiles: Tiles = keys.filter_map(|key| Tile::from_key(*key)).collect();
         assert_eq!(tiles, self.tiles());
+        assert_eq!(self.bench.kept_counts(), self.due_counts());
         let steps = self.steps();
         assert!(strict(self.rule, &self.start, &steps));
         let places = self.bench.tables.tiles.len();

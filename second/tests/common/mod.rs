@@ -3,6 +3,7 @@
 
 #![allow(dead_code)]
 
+pub mod counts;
 pub mod cuts;
 pub mod expected;
 pub mod history;
@@ -17,6 +18,7 @@ use second::reply::{numbers, sweep_numbers, Reply, Span, SweepReply};
 use second::rule::Rule;
 use second::service;
 use second::session::{Session, Tables};
+use second::soundness::fresh_counts;
 use second::state::State;
 use second::tile::Tile;
 use std::collections::BTreeSet;
@@ -186,6 +188,13 @@ impl Bench {
 
     pub fn abort(&mut self, job: u8) -> Told {
         without_turns(service::abort(&mut self.session, &mut self.tables, job))
+    }
+
+    /// Gives the session the counts that its tables have, as they stand.
+    pub fn count_anew(&mut self) {
+        let (levels, spoken) = fresh_counts(&self.session, &self.tables);
+        self.session.levels = levels;
+        self.session.spoken = spoken;
     }
 
     pub fn is_sound(&self) -> bool {

@@ -24,6 +24,10 @@ pub fn some_address(random: &mut Random) -> Address {
 pub fn some_bench(random: &mut Random) -> Bench {
     let rule = random.pick(&RULES);
     let mut keys = vec![1_073_741_829, 1_073_856_517, 1_073_987_589];
+    if random.one_in(3) {
+        // On the highest level.
+        keys.push(3_758_211_077);
+    }
     let entries = some_entries(random, rule, &keys);
     keys.retain(|_| random.one_in(2));
     let places = keys.len() + random.pick(&[0, 0, 1, 2]);
@@ -41,7 +45,9 @@ pub fn some_bench(random: &mut Random) -> Bench {
     session.tiles = keys.len() as u32;
     session.operations = entries.len() as u32;
     session.journal = random.below(tables.journal.len() / 2) as u32;
-    Bench { session, tables }
+    let mut bench = Bench { session, tables };
+    bench.count_anew();
+    bench
 }
 
 pub fn some_count(random: &mut Random, length: usize) -> u32 {
@@ -70,8 +76,24 @@ fn some_entries(random: &mut Random, rule: Rule, keys: &[u32]) -> Vec<u64> {
         .collect()
 }
 
-/// One number anywhere becomes another one, now and then.
+/// One number anywhere becomes another one, now and then. Mostly the kept counts go along, so that
+/// they are not what is wrong.
 pub fn damage(random: &mut Random, bench: &mut Bench) {
+    damage_tables(random, bench);
+    if !random.one_in(4) {
+        bench.count_anew();
+    }
+    match random.below(40) {
+        0 => bench.session.spoken = some_count(random, 3),
+        1 => {
+            let level = random.below(bench.session.levels.len());
+            bench.session.levels[level] = some_count(random, 3);
+        }
+        _ => {}
+    }
+}
+
+fn damage_tables(random: &mut Random, bench: &mut Bench) {
     let wild = random.number();
     let (tiles, operations) = (&mut bench.tables.tiles, &mut bench.tables.operations);
     match random.below(18) {
