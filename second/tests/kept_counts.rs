@@ -3,7 +3,7 @@
 
 mod common;
 
-use common::counts::Counts;
+use common::counts::KeptCounts;
 use common::*;
 use second::address::Address;
 use second::operation::PROCEDURES;
@@ -27,7 +27,7 @@ const PAIR: Rectangle = Rectangle {
 };
 
 /// So many tiles on the levels 4 and 9 and none on the others, and so many places spoken for.
-fn counts(fourth: u32, ninth: u32, spoken: u32) -> Counts {
+fn counts(fourth: u32, ninth: u32, spoken: u32) -> KeptCounts {
     ([fourth, 0, 0, 0, 0, ninth, 0, 0, 0, 0, 0], spoken)
 }
 
@@ -84,7 +84,7 @@ fn a_start_counts_the_tiles_and_a_refused_one_counts_nothing() {
 type Call = fn(&mut Bench) -> Told;
 
 /// A call, what it is told, and the counts that it leaves.
-type Moved = (Call, Told, Counts);
+type Moved = (Call, Told, KeptCounts);
 
 fn insert_pair(bench: &mut Bench) -> Told {
     bench.sweep(1, Sweep::Insert, PAIR)
@@ -140,22 +140,24 @@ fn a_rectangle_speaks_for_the_places_of_its_present_tiles() {
     }
 }
 
+/// Beside a delete of another job, whose place stays spoken for.
 #[test]
 fn what_only_rule_2_allows() {
-    let replaced: [Moved; 4] = [
-        (|bench| bench.del(1, A), OK, counts(0, 0, 1)),
-        (|bench| bench.del(1, A), OK, counts(0, 0, 1)),
-        (insert_pair, DONE, counts(2, 0, 0)),
-        (insert_pair, DONE, counts(2, 0, 0)),
+    let replaced: [Moved; 5] = [
+        (|bench| bench.del(2, FAR), OK, counts(1, 0, 1)),
+        (|bench| bench.del(1, A), OK, counts(0, 0, 2)),
+        (|bench| bench.del(1, A), OK, counts(0, 0, 2)),
+        (insert_pair, DONE, counts(2, 0, 1)),
+        (insert_pair, DONE, counts(2, 0, 1)),
     ];
     // Both tiles go again, so that A was deleted twice.
-    let gone: Moved = (delete_pair, DONE, counts(0, 0, 2));
+    let gone: Moved = (delete_pair, DONE, counts(0, 0, 3));
     let (commit, abort): (Call, Call) = (|bench| bench.commit(1), |bench| bench.abort(1));
     for (end, left, left_again) in [(commit, 2, 0), (abort, 1, 1)] {
-        let bench = Bench::with_places_by(Rule::JobAsOne, 10, &[A]);
-        let end_there: Moved = (end, DONE, counts(left, 0, 0));
+        let bench = Bench::with_places_by(Rule::JobAsOne, 10, &[A, FAR]);
+        let end_there: Moved = (end, DONE, counts(left, 0, 1));
         moves(bench.clone(), &[&replaced[..], &[end_there]].concat());
-        let end_again: Moved = (end, DONE, counts(left_again, 0, 0));
+        let end_again: Moved = (end, DONE, counts(left_again, 0, 1));
         moves(bench, &[&replaced[..], &[gone, end_again]].concat());
     }
 }

@@ -3,7 +3,7 @@
 
 mod common;
 
-use common::counts::Counts;
+use common::counts::KeptCounts;
 use common::tables::{damage, some_address, some_bench};
 use common::*;
 use second::address::Address;
@@ -148,7 +148,7 @@ fn check_effects(before: &Bench, after: &Bench, new: u64, procedure: Procedure, 
 
 /// The counts that an accepted operation leaves: a tile that comes or goes counts on its own level,
 /// a place is spoken for where a tile goes, and is not any more where its tile is put back.
-fn moved_counts(before: &Bench, new: u64) -> Counts {
+fn moved_counts(before: &Bench, new: u64) -> KeptCounts {
     let (mut levels, mut spoken) = before.kept_counts();
     let level = (key_of(new) >> 28) as usize - 4;
     match kind_of(new) {

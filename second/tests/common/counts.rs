@@ -7,10 +7,10 @@ use second::strictness::Tiles;
 use second::tile::Tile;
 
 /// The tiles of each zoom, 4 to 14, and the places spoken for.
-pub type Counts = ([u32; 11], u32);
+pub type KeptCounts = ([u32; 11], u32);
 
 /// One place for each delete by rule 1; by rule 2 one for each tile of theirs that is not there.
-pub fn counts_of(rule: Rule, tiles: &Tiles, deleted: &[Tile]) -> Counts {
+pub fn counts_of(rule: Rule, tiles: &Tiles, deleted: &[Tile]) -> KeptCounts {
     let mut levels = [0; 11];
     for tile in tiles {
         levels[tile.zoom() as usize - 4] += 1;
@@ -27,12 +27,12 @@ pub fn counts_of(rule: Rule, tiles: &Tiles, deleted: &[Tile]) -> Counts {
 
 impl Bench {
     /// The counts that the session holds.
-    pub fn kept_counts(&self) -> Counts {
+    pub fn kept_counts(&self) -> KeptCounts {
         (self.session.levels, self.session.spoken)
     }
 
     /// The counts that it should hold.
-    pub fn due_counts(&self) -> Counts {
+    pub fn due_counts(&self) -> KeptCounts {
         let tile = |key: u32| Tile::from_key(key).expect("a key");
         let tiles: Tiles = self.keys().iter().map(|key| tile(*key)).collect();
         let entries = self.entries().iter();

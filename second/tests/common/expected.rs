@@ -1,6 +1,6 @@
 //! The reply to an operation by the definitions alone, and what they leave open.
 
-use super::counts::{counts_of, Counts};
+use super::counts::{counts_of, KeptCounts};
 use super::history::{Done, Trial};
 use super::{held_by, refused, Told};
 use second::operation::{Origin, Procedure, Recovery};
@@ -19,7 +19,7 @@ impl Trial {
     }
 
     /// The counts that the session should keep, from the history alone.
-    pub fn due_counts(&self) -> Counts {
+    pub fn due_counts(&self) -> KeptCounts {
         let deleted: Vec<Tile> = self.deleted().collect();
         counts_of(self.rule, &self.tiles(), &deleted)
     }
