@@ -4,6 +4,7 @@
 //! for each absent tile that an unfinished delete may bring back, whose last change is that delete.
 
 use crate::entry::{changes_its_tile, job, key, kind, DELETED};
+use crate::session::MOST_OPERATIONS;
 use crate::soundness::{is_as_left, slot};
 use std::collections::HashMap;
 
@@ -73,17 +74,21 @@ pub fn goes_on(change: u64, later: u64) -> bool {
     job(later) == job(change) && kind(later) != kind(change)
 }
 
-/// The places that the entries of sound tables reserve.
-pub fn reserved_places(entries: &[u64]) -> usize {
-    let mut nearest = Nearest::new();
-    let mut is_reserved = |at: usize| {
-        let own = key(entries[at]);
-        let from = nearest.replace(own, at).min(entries.len());
-        let changes_it = |&e: &u64| key(e) == own && changes_its_tile(e);
-        kind(entries[at]) == DELETED && !entries[from..].iter().any(changes_it)
-    };
-    let changes = (0..entries.len()).filter(|&at| changes_its_tile(entries[at]));
-    changes.rev().filter(|&at| is_reserved(at)).count()
+/// The places that a job's entries of sound tables reserve: of its deletes, those behind which it
+/// changed the tile no more.
+pub fn reserved_by_job(entries: &[u64], owner: u8) -> usize {
+    let mut links = Links::new();
+    let mut reserved = 0;
+    for (at, &e) in entries.iter().enumerate().rev() {
+        if job(e) == owner && changes_its_tile(e) {
+            let later = links.put(key(e), at);
+            let is_last = links
+                .find(later, entries, |later| key(later) == key(e))
+                .is_none();
+            reserved += usize::from(is_last && kind(e) == DELETED);
+        }
+    }
+    reserved
 }
 
 /// For each slot of a hash the place that was put in last: going from the last entry to the first,
@@ -105,5 +110,48 @@ impl Nearest {
     fn replace(&mut self, key: u32, at: usize) -> usize {
         let place = &mut self.places[slot(key) % Nearest::SLOTS];
         usize::from(std::mem::replace(place, at as u16))
+    }
+}
+
+/// The entries that were put in, linked for each slot of a hash, the nearest first.
+pub(crate) struct Links {
+    firsts: [u16; Links::SLOTS],
+    nexts: [u16; MOST_OPERATIONS],
+}
+
+impl Links {
+    const SLOTS: usize = 1 << 12;
+    const NONE: u16 = u16::MAX;
+
+    pub(crate) fn new() -> Links {
+        Links {
+            firsts: [Links::NONE; Links::SLOTS],
+            nexts: [Links::NONE; MOST_OPERATIONS],
+        }
+    }
+
+    /// Puts an entry in, and answers where those begin that its slot had before.
+    pub(crate) fn put(&mut self, key: u32, at: usize) -> u16 {
+        let first = &mut self.firsts[slot(key) % Links::SLOTS];
+        let before = std::mem::replace(first, at as u16);
+        self.nexts[at] = before;
+        before
+    }
+
+    /// The first entry of a slot from there on that is the one.
+    pub(crate) fn find(
+        &self,
+        mut at: u16,
+        entries: &[u64],
+        is_it: impl Fn(u64) -> bool,
+    ) -> Option<u64> {
+        while at != Links::NONE {
+            let entry = entries[usize::from(at)];
+            if is_it(entry) {
+                return Some(entry);
+            }
+            at = self.nexts[usize::from(at)];
+        }
+        None
     }
 }

@@ -3,8 +3,8 @@
 
 use crate::chains;
 use crate::entry::{
-    changes_its_tile, commutes, deletes, entry, job, key, kind, kind_of, origin, Origin, DELETED,
-    INSERTED, NOT_SEEN,
+    changes_its_tile, commutes, entry, job, key, kind, kind_of, origin, Origin, DELETED, INSERTED,
+    NOT_SEEN,
 };
 use crate::journal::Procedure;
 use crate::reply::Refusal;
@@ -16,6 +16,7 @@ pub struct Admitted {
     kind: u64,
     key: u32,
     place: usize,
+    was_deleted: bool,
 }
 
 impl Admitted {
@@ -35,14 +36,16 @@ pub fn admit(
     let entries = &operations[..session.operations];
     let search = tiles[..session.tiles].binary_search(&new_key);
     let new_kind = kind_of(procedure, search.is_ok());
-    let mut on_tile = entries.iter().copied().filter(|&e| key(e) == new_key);
-    if let Some(holder) = on_tile.find(|&e| holds(session.rule, own_job, new_kind, e)) {
-        return Err(Refusal::Held(origin(holder)));
+    let mut was_deleted = false;
+    for &e in entries.iter().filter(|&&e| key(e) == new_key) {
+        if holds(session.rule, own_job, new_kind, e) {
+            return Err(Refusal::Held(origin(e)));
+        }
+        was_deleted |= kind(e) == DELETED;
     }
-    if new_kind == INSERTED
-        && lacks_places(session, tiles.len(), entries, 1)
-        && !has_reserved(session.rule, entries, new_key)
-    {
+    // an absent tile that was deleted has a place reserved; by the first rule it is held
+    let needed = usize::from(new_kind == INSERTED && !was_deleted);
+    if lacks_places(session, tiles.len(), needed) {
         return Err(Refusal::NoTileRoom);
     }
     if entries.len() == operations.len() {
@@ -53,6 +56,7 @@ pub fn admit(
         kind: new_kind,
         key: new_key,
         place,
+        was_deleted,
     })
 }
 
@@ -65,20 +69,8 @@ pub fn holds(rule: Rule, own_job: u8, new_kind: u64, unfinished: u64) -> bool {
 }
 
 /// Whether fewer tile places than are needed are neither used nor reserved.
-pub fn lacks_places(session: &Session, places: usize, entries: &[u64], needed: usize) -> bool {
-    let is_lacking = |reserved: usize| session.tiles + reserved + needed > places;
-    // by the second rule no more are reserved than by the first
-    is_lacking(deletes(entries))
-        && match session.rule {
-            Rule::Alone => true,
-            Rule::Together => is_lacking(chains::reserved_places(entries)),
-        }
-}
-
-/// Whether an absent tile has a place reserved for itself: by the second rule, if it was deleted.
-fn has_reserved(rule: Rule, entries: &[u64], absent: u32) -> bool {
-    let was_deleted = |&e: &u64| key(e) == absent && kind(e) == DELETED;
-    rule == Rule::Together && entries.iter().any(was_deleted)
+pub fn lacks_places(session: &Session, places: usize, needed: usize) -> bool {
+    session.tiles + session.spoken + needed > places
 }
 
 pub fn perform(
@@ -88,12 +80,23 @@ pub fn perform(
     origin: Origin,
     admitted: Admitted,
 ) {
-    let Admitted { kind, key, place } = admitted;
+    let Admitted {
+        kind,
+        key,
+        place,
+        was_deleted,
+    } = admitted;
     operations[session.operations] = entry(kind, origin, key);
     session.operations += 1;
     match kind {
-        INSERTED => insert_at(session, tiles, place, key),
-        DELETED => remove_at(session, tiles, place),
+        INSERTED => {
+            insert_at(session, tiles, place, key);
+            session.spoken -= usize::from(was_deleted);
+        }
+        DELETED => {
+            remove_at(session, tiles, place);
+            session.spoken += 1;
+        }
         _ => {}
     }
 }
@@ -101,12 +104,13 @@ pub fn perform(
 fn insert_at(session: &mut Session, tiles: &mut [u32], place: usize, key: u32) {
     tiles.copy_within(place..session.tiles, place + 1);
     tiles[place] = key;
-    session.tiles += 1;
+    session.count_in(key);
 }
 
 fn remove_at(session: &mut Session, tiles: &mut [u32], place: usize) {
+    let key = tiles[place];
     tiles.copy_within(place + 1..session.tiles, place);
-    session.tiles -= 1;
+    session.count_out(key);
     tiles[session.tiles] = 0;
 }
 
@@ -122,9 +126,21 @@ pub fn undo(session: &mut Session, tiles: &mut [u32], operations: &[u64], ending
     }
 }
 
-/// Takes a job's entries away and closes it.
+/// The places that the job's entries reserve.
+fn reserved_by(rule: Rule, entries: &[u64], owner: u8) -> usize {
+    match rule {
+        Rule::Alone => {
+            let is_delete = |&&e: &&u64| job(e) == owner && kind(e) == DELETED;
+            entries.iter().filter(is_delete).count()
+        }
+        Rule::Together => chains::reserved_by_job(entries, owner),
+    }
+}
+
+/// Takes a job's entries away, with the places that they reserve, and closes it.
 pub fn close(session: &mut Session, operations: &mut [u64], ending: u8) {
     let used = session.operations;
+    session.spoken -= reserved_by(session.rule, &operations[..used], ending);
     let mut kept = 0;
     for at in 0..used {
         let entry = operations[at];

@@ -10,6 +10,7 @@ pub mod chains;
 mod engine;
 pub mod entry;
 pub mod journal;
+pub mod levels;
 mod lists;
 pub mod rectangle;
 pub mod replay;

@@ -22,9 +22,19 @@ impl Met {
     fn needs_place(&self) -> bool {
         self.kind == INSERTED && !self.was_deleted
     }
+
+    fn takes_reserved(&self) -> bool {
+        self.kind == INSERTED && self.was_deleted
+    }
 }
 
-/// The entries to be made, of which none is held or lacks room.
+/// Entries to be made, of which none is held or lacks room.
+pub struct AdmittedList {
+    entries: Vec<u64>,
+    /// So many of them insert a tile that has a place reserved.
+    takes_reserved: usize,
+}
+
 pub fn admit_all(
     session: &Session,
     tiles: &[u32],
@@ -32,14 +42,14 @@ pub fn admit_all(
     origin: Origin,
     procedure: Procedure,
     list: &Listed,
-) -> Result<Vec<u64>, Refusal> {
+) -> Result<AdmittedList, Refusal> {
     let (entries, unused) = operations.split_at(session.operations);
     let met = met_by(session, tiles, entries, origin.job, procedure, list);
     if let Some(holder) = met.iter().find_map(|tile| tile.holder) {
         return Err(Refusal::Held(holder));
     }
     let needed = met.iter().filter(|tile| tile.needs_place()).count();
-    if lacks_places(session, tiles.len(), entries, needed) {
+    if lacks_places(session, tiles.len(), needed) {
         return Err(Refusal::NoTileRoom);
     }
     if unused.len() < list.keys.len() {
@@ -47,7 +57,10 @@ pub fn admit_all(
     }
     let tiles = met.iter().zip(&list.keys);
     let admitted = tiles.map(|(tile, &key)| entry(tile.kind, origin, key));
-    Ok(admitted.collect())
+    Ok(AdmittedList {
+        entries: admitted.collect(),
+        takes_reserved: met.iter().filter(|tile| tile.takes_reserved()).count(),
+    })
 }
 
 /// What the tiles of the list meet, found by one pass over the entries.
@@ -84,16 +97,23 @@ pub fn perform_all(
     tiles: &mut [u32],
     operations: &mut [u64],
     procedure: Procedure,
-    admitted: &[u64],
+    admitted: AdmittedList,
 ) {
-    operations[session.operations..][..admitted.len()].copy_from_slice(admitted);
-    session.operations += admitted.len();
-    let changing = admitted.iter().filter(|&&e| changes_its_tile(e));
+    let entries = admitted.entries;
+    operations[session.operations..][..entries.len()].copy_from_slice(&entries);
+    session.operations += entries.len();
+    let changing = entries.iter().filter(|&&e| changes_its_tile(e));
     let mut changed: Vec<u32> = changing.map(|&e| key(e)).collect();
     changed.sort_unstable();
     match procedure {
-        Procedure::Insert => insert_all(session, tiles, &changed),
-        Procedure::Delete => remove_all(session, tiles, &changed),
+        Procedure::Insert => {
+            insert_all(session, tiles, &changed);
+            session.spoken -= admitted.takes_reserved;
+        }
+        Procedure::Delete => {
+            remove_all(session, tiles, &changed);
+            session.spoken += changed.len();
+        }
         Procedure::Member => {}
     }
 }
@@ -106,8 +126,8 @@ fn insert_all(session: &mut Session, tiles: &mut [u32], keys: &[u32]) {
         tiles.copy_within(place..above, place + at + 1);
         tiles[place + at] = new_key;
         above = place;
+        session.count_in(new_key);
     }
-    session.tiles += keys.len();
 }
 
 /// Takes present keys out, which are in order: those between each and the next move down.
@@ -118,8 +138,8 @@ fn remove_all(session: &mut Session, tiles: &mut [u32], keys: &[u32]) {
         let place = from + tiles[from..used].partition_point(|&other| other < old_key);
         tiles.copy_within(from..place, from - removed);
         from = place + 1;
+        session.count_out(old_key);
     }
     tiles.copy_within(from..used, from - keys.len());
-    session.tiles -= keys.len();
     tiles[session.tiles..used].fill(0);
 }

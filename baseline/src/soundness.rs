@@ -5,6 +5,7 @@
 use crate::chains;
 use crate::entry::{changes_its_tile, deletes, job, key, kind, INSERTED, NOT_SEEN};
 use crate::journal::JOB_RECORD;
+use crate::levels::{counted_by_pass, counted_by_search, Levels};
 use crate::rule::Rule;
 use crate::session::{Session, Tables, JOBS, MOST_JOURNAL, MOST_OPERATIONS, MOST_TILES};
 use crate::tile::is_key;
@@ -24,29 +25,35 @@ impl Check {
     pub const ALL: [Check; 4] = [Check::Pairs, Check::Sets, Check::Filter, Check::Tuned];
 }
 
-/// One way to decide it, for each rule.
+/// One way to decide it, for each rule, and to count the tiles of each level.
 struct Decided {
+    counted: fn(&[u32]) -> Levels,
     changed_last: fn(&[u64]) -> bool,
     reserved_if_chained: fn(&[u32], &[u64]) -> Option<usize>,
 }
 
 const PAIRS: Decided = Decided {
+    counted: counted_by_pass,
     changed_last: changed_last_by_pairs,
     reserved_if_chained: chains::reserved_by_pairs,
 };
 
 const SETS: Decided = Decided {
+    counted: counted_by_pass,
     changed_last: changed_last_by_set,
     reserved_if_chained: chains::reserved_by_map,
 };
 
 const FILTER: Decided = Decided {
+    counted: counted_by_search,
     changed_last: changed_last_by_filter,
     reserved_if_chained: chains::reserved_by_nearest,
 };
 
 pub fn is_sound(check: Check, session: &Session, tables: &Tables) -> bool {
-    lengths_and_counts_fit(session, tables.tiles, tables.operations)
+    lengths_fit(tables.tiles, tables.operations)
+        && session.tiles <= tables.tiles.len()
+        && session.operations <= tables.operations.len()
         && journal_has_room(session, tables.journal)
         && match check {
             Check::Pairs => tables_hold(session, tables, PAIRS),
@@ -65,7 +72,8 @@ pub fn can_start(
     operations: &[u64],
     journal: &[u8],
 ) -> bool {
-    lengths_and_counts_fit(&Session::fresh(Rule::Alone, count), tiles, operations)
+    lengths_fit(tiles, operations)
+        && count <= tiles.len()
         && journal.len() <= MOST_JOURNAL
         && match check {
             Check::Tuned => tuned::tiles_hold(tiles, count),
@@ -73,11 +81,8 @@ pub fn can_start(
         }
 }
 
-fn lengths_and_counts_fit(session: &Session, tiles: &[u32], operations: &[u64]) -> bool {
-    (1..=MOST_TILES).contains(&tiles.len())
-        && (1..=MOST_OPERATIONS).contains(&operations.len())
-        && session.tiles <= tiles.len()
-        && session.operations <= operations.len()
+fn lengths_fit(tiles: &[u32], operations: &[u64]) -> bool {
+    (1..=MOST_TILES).contains(&tiles.len()) && (1..=MOST_OPERATIONS).contains(&operations.len())
 }
 
 fn journal_has_room(session: &Session, journal: &[u8]) -> bool {
@@ -88,23 +93,23 @@ fn journal_has_room(session: &Session, journal: &[u8]) -> bool {
 
 fn tables_hold(session: &Session, tables: &Tables, decided: Decided) -> bool {
     let (entries, unused) = tables.operations.split_at(session.operations);
+    let used = &tables.tiles[..session.tiles];
     tiles_hold(tables.tiles, session.tiles)
+        && session.levels == (decided.counted)(used)
         && entries.iter().all(|&e| entry_fits(&session.marks, e))
         && unused.iter().all(|&e| e == 0)
-        && reserved_if_settled(session, tables.tiles, entries, decided).map_or(false, |reserved| {
-            session.tiles + reserved <= tables.tiles.len()
-        })
+        && reserved_if_settled(session.rule, used, entries, decided) == Some(session.spoken)
+        && session.tiles + session.spoken <= tables.tiles.len()
 }
 
 /// How many places the entries reserve; none if they do not fit the tiles or each other.
 fn reserved_if_settled(
-    session: &Session,
+    rule: Rule,
     tiles: &[u32],
     entries: &[u64],
     decided: Decided,
 ) -> Option<usize> {
-    let tiles = &tiles[..session.tiles];
-    match session.rule {
+    match rule {
         Rule::Alone => {
             let are_as_left = entries.iter().all(|&e| is_as_left(tiles, e));
             let is_settled = are_as_left && (decided.changed_last)(entries);

@@ -6,7 +6,7 @@ use crate::reply::Refusal;
 pub const FROM_SOUTH: u8 = 1;
 pub const FROM_NORTH: u8 = 2;
 
-const ZOOMS: std::ops::RangeInclusive<u32> = 4..=14;
+pub const ZOOMS: std::ops::RangeInclusive<u32> = 4..=14;
 const ZOOM_SHIFT: u32 = 28;
 const COLUMN_SHIFT: u32 = 14;
 const LOW_BITS: u32 = (1 << COLUMN_SHIFT) - 1;
@@ -24,7 +24,7 @@ impl Address {
     pub fn of_key(key: u32) -> Address {
         Address {
             edition: FROM_NORTH,
-            zoom: (key >> ZOOM_SHIFT) as u8,
+            zoom: zoom_of_key(key) as u8,
             column: (key >> COLUMN_SHIFT & LOW_BITS) as i32,
             row: (key & LOW_BITS) as i32,
         }
@@ -61,9 +61,13 @@ pub fn turned_row(zoom: u8, row: i32) -> i32 {
     ((1i32 << zoom) - 1).wrapping_sub(row)
 }
 
+pub fn zoom_of_key(key: u32) -> u32 {
+    key >> ZOOM_SHIFT
+}
+
 /// Whether a number is the key of some address.
 pub fn is_key(key: u32) -> bool {
-    let zoom = key >> ZOOM_SHIFT;
+    let zoom = zoom_of_key(key);
     let side = 1 << zoom;
     ZOOMS.contains(&zoom) && (key >> COLUMN_SHIFT & LOW_BITS) < side && (key & LOW_BITS) < side
 }

@@ -2,10 +2,11 @@
 
 mod common;
 
-use baseline::chains::reserved_places;
+use baseline::chains::reserved_by_job;
 use baseline::entry::{entry, job, key, kind, origin};
 use baseline::rule::Rule;
 use baseline::soundness::Check;
+use baseline::workload::counts::recount;
 use baseline::workload::packs::{employ_idle_job, Sort, IDLE_JOB};
 use baseline::workload::world::Call;
 use common::*;
@@ -22,6 +23,7 @@ fn is_sound_with(places: usize, is_there: bool, chain: Chain) -> bool {
         case.world.operations[2 * at + 1] = entry(6, of_job(2), B.key().unwrap());
     }
     case.world.session.operations = 2 * chain.len();
+    recount(&mut case.world);
     is_sound(&mut case.world)
 }
 
@@ -66,8 +68,10 @@ fn an_absent_tile_with_a_delete_is_counted_once() {
         let chain = [3, 1, 3].map(|kind| entry(kind, of_job(1), A.key().unwrap()));
         case.world.operations[..3].copy_from_slice(&chain);
         case.world.session.operations = 3;
+        recount(&mut case.world);
         assert_eq!(is_sound(&mut case.world), expected, "{present:?} {places}");
-        assert_eq!(reserved_places(&chain), 1);
+        assert_eq!(case.world.session.spoken, 1);
+        assert_eq!([1, 2].map(|job| reserved_by_job(&chain, job)), [1, 0]);
     }
     assert!(is_sound_with(1, true, &[(3, 1), (1, 1), (3, 1), (1, 1)]));
 }
@@ -91,6 +95,7 @@ fn a_broken_link_is_found_wherever_it_stands() {
             for wrong in [other_job, other_kind] {
                 let mut world = pack.clone();
                 world.operations[at] = wrong;
+                recount(&mut world);
                 assert!(!is_sound(&mut world), "{sort:?} {at}");
             }
         }

@@ -3,13 +3,13 @@
 
 mod common;
 
-use baseline::chains;
-use baseline::entry::{deletes, entry, key, kind};
+use baseline::entry::{entry, key, kind};
 use baseline::reply::{numbers, Refusal};
 use baseline::rule::Rule;
 use baseline::soundness::{slot, Check};
+use baseline::workload::counts::{fresh_spoken, recount};
 use baseline::workload::damage::damage;
-use baseline::workload::histories::{any_call, recorded, small_world, Recorded};
+use baseline::workload::histories::{any_next_call, recorded, small_world, Recorded};
 use baseline::workload::packs::{employ_idle_job, Sort, IDLE_JOB};
 use baseline::workload::random::Random;
 use baseline::workload::world::{Call, World};
@@ -26,13 +26,8 @@ fn sound_case() -> Case {
 }
 
 /// Tiles in use and places reserved, by the rule of the session.
-fn spoken_for(world: &World) -> usize {
-    let used = &world.operations[..world.session.operations];
-    let reserved = match world.session.rule {
-        Rule::Alone => deletes(used),
-        Rule::Together => chains::reserved_places(used),
-    };
-    world.session.tiles + reserved
+fn taken_places(world: &World) -> usize {
+    world.session.tiles + fresh_spoken(world)
 }
 
 type Breach = (&'static str, fn(&mut World));
@@ -66,6 +61,8 @@ fn each_rule_is_held() {
     for (rule, breach) in breaches {
         let mut world = sound_case().world;
         breach(&mut world);
+        // nothing else is wrong
+        recount(&mut world);
         assert!(!is_sound(&mut world), "{rule}");
     }
 }
@@ -89,6 +86,7 @@ fn no_later_entry_has_a_tile_that_was_changed() {
             // found the tile as the entry left it, so that only the order is wrong
             let finding = entry(kind(changed) + 1, of_job(1), key(changed));
             world.operations[later] = finding;
+            recount(&mut world);
             assert!(!is_sound(&mut world), "{at} {later}");
             world.operations.swap(at, later);
             assert!(is_sound(&mut world), "{at} {later}");
@@ -103,7 +101,7 @@ fn packs_are_sound_full_and_different() {
         assert!(packs.iter_mut().all(is_sound));
         for (at, pack) in packs.iter().enumerate() {
             assert!(!packs[..at].contains(pack));
-            let is_full = spoken_for(pack) == pack.tiles.len();
+            let is_full = taken_places(pack) == pack.tiles.len();
             assert_eq!(is_full, sort != Sort::LittleUsed);
         }
     }
@@ -161,7 +159,7 @@ fn replies_of_histories(random: &mut Random, rule: Rule) -> [usize; NUMBERS] {
         let start = Call::Start(case.world.session.tiles, rule);
         assert_eq!(case.call(start), DONE);
         for _ in 0..160 {
-            let call = any_call(random, &keys, 5);
+            let call = any_next_call(random, &keys, 5, &case.world);
             let reply = case.reply(call);
             told[numbers(reply)[0] as usize] += 1;
             assert!(is_sound(&mut case.world), "after {call:?}");
@@ -186,7 +184,7 @@ fn stays_full(recorded: Recorded) {
         }
         for call in stretch.operations {
             assert!(world.session.operations >= 900);
-            assert!(spoken_for(&world) >= 4_000);
+            assert!(taken_places(&world) >= 4_000);
             let reply = world.call(Check::Filter, call);
             assert_ne!(reply, Err(Refusal::NoJournalRoom));
             told[numbers(reply)[0] as usize] += 1;

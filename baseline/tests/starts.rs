@@ -21,7 +21,7 @@ fn used_case() -> Case {
 fn is_refused(mut case: Case, count: usize, rule: Rule, refusal: Refusal) {
     let before = case.world.clone();
     assert_eq!(case.call(Call::Start(count, rule)), Err(refusal));
-    assert_eq!(case.world.session, Session::fresh(Rule::Alone, 0));
+    assert_eq!(case.world.session, Session::fresh(Rule::Alone, &[]));
     case.world.session = before.session;
     assert!(case.world == before);
 }
@@ -38,7 +38,7 @@ fn a_start_clears_the_operations_and_writes_its_rule() {
         assert_eq!(world.written(), written);
         let behind = &world.journal[written.len()..];
         assert!(behind.iter().all(|&byte| byte == 0xEE));
-        let mut fresh = Session::fresh(rule, 1);
+        let mut fresh = Session::fresh(rule, &tiles[..1]);
         fresh.journal = written.len();
         assert_eq!(world.session, fresh);
     }

@@ -8,7 +8,7 @@ use baseline::reply::{numbers, Done, Refusal, Reply};
 use baseline::rule::Rule;
 use baseline::session::{MOST_JOURNAL, MOST_OPERATIONS, MOST_TILES};
 use baseline::soundness::Check;
-use baseline::workload::histories::{any_call, small_world};
+use baseline::workload::histories::{any_next_call, small_world};
 use baseline::workload::packs::IDLE_JOB;
 use baseline::workload::random::Random;
 use baseline::workload::rectangles::roomy_pack;
@@ -121,7 +121,7 @@ fn history(random: &mut Random, rule: Rule, told: &mut [usize; NUMBERS]) {
     let start = Call::Start(case.world.session.tiles, rule);
     assert_eq!(case.call(start), DONE);
     for _ in 0..80 {
-        match any_call(random, &keys, 4) {
+        match any_next_call(random, &keys, 4, &case.world) {
             Call::Rectangle(origin, change, rectangle) => {
                 let asked = Asked {
                     origin,

@@ -1,18 +1,25 @@
 //! Changes that most often make a sound session unsound.
 
+use super::counts::recount;
 use super::random::Random;
 use super::world::World;
 use crate::entry::{entry, job, key, kind, origin, Origin};
+use crate::levels::LEVELS;
 use crate::rule::Rule;
-use crate::session::{JOBS, MOST_JOURNAL, MOST_OPERATIONS, MOST_TILES};
+use crate::session::{Session, JOBS, MOST_JOURNAL, MOST_OPERATIONS, MOST_TILES};
 
 /// Makes one change; now and then the session is sound after it all the same.
 pub fn damage(random: &mut Random, world: &mut World) {
-    match random.below(4) {
+    match random.below(5) {
         0 => damage_tiles(random, &mut world.tiles),
         1 => damage_entries(random, &mut world.operations, world.session.operations),
         2 => damage_session(random, world),
-        _ => damage_lengths(random, world),
+        3 => damage_lengths(random, world),
+        _ => return damage_counts(random, &mut world.session),
+    }
+    // lest the counts of levels and of what is spoken for be wrong wherever something else is
+    if random.one_in(2) {
+        recount(world);
     }
 }
 
@@ -87,4 +94,26 @@ fn damage_lengths(random: &mut Random, world: &mut World) {
         4 => world.operations.resize(MOST_OPERATIONS + 1, 0),
         _ => world.journal.resize(MOST_JOURNAL + 1, 0),
     }
+}
+
+/// Changes what is spoken for or a level alone, or two levels so that they add up as before.
+fn damage_counts(random: &mut Random, session: &mut Session) {
+    let (one, other) = (random.below(LEVELS), random.below(LEVELS));
+    let levels = &mut session.levels;
+    match random.below(3) {
+        0 => session.spoken = another_count(random, session.spoken),
+        1 => levels[one] = another_count(random, levels[one]),
+        _ => {
+            let moved = another_count(random, levels[one]).min(levels[one]);
+            levels[one] -= moved;
+            levels[other] += moved;
+        }
+    }
+}
+
+/// One next to it, none, the most that 32 bits hold, or any; now and then it is the same.
+fn another_count(random: &mut Random, count: usize) -> usize {
+    let any = random.below(MOST_TILES + 1);
+    let most = u32::MAX as usize;
+    random.pick(&[count + 1, count.saturating_sub(1), 0, most, any])
 }

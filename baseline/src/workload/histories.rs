@@ -48,6 +48,25 @@ pub fn any_call(random: &mut Random, keys: &[u32], jobs: usize) -> Call {
     }
 }
 
+/// The same; but often a rectangle near the tile of an entry for its job, where it may go on.
+pub fn any_next_call(random: &mut Random, keys: &[u32], jobs: usize, world: &World) -> Call {
+    match own_entry(random, world).filter(|_| random.one_in(2)) {
+        Some(entry) => {
+            let origin = random.origin(job(entry));
+            let rectangle = any_rectangle(random, &[key(entry)]);
+            Call::Rectangle(origin, random.pick(&Change::ALL), rectangle)
+        }
+        None => any_call(random, keys, jobs),
+    }
+}
+
+/// By the second rule, often, an entry; for a job may go on with what it changed.
+fn own_entry(random: &mut Random, world: &World) -> Option<u64> {
+    let entries = &world.operations[..world.session.operations];
+    let may_go_on = world.session.rule == Rule::Together && !entries.is_empty();
+    (may_go_on && random.one_in(2)).then(|| random.pick(entries))
+}
+
 fn any_address(random: &mut Random, keys: &[u32]) -> Address {
     let key = random.pick(keys);
     let mut address = address_of(random, key);
@@ -62,16 +81,15 @@ fn any_address(random: &mut Random, keys: &[u32]) -> Address {
     address
 }
 
-/// A job and a tile for its next operation. By the second rule they are often those of an entry,
-/// for a job may go on with what it changed.
+/// A job and a tile for its next operation, often those of an entry where it may go on.
 pub fn job_and_tile(random: &mut Random, keys: &[u32], world: &World) -> (u8, u32) {
-    let entries = &world.operations[..world.session.operations];
-    if world.session.rule == Rule::Together && !entries.is_empty() && random.one_in(2) {
-        let entry = random.pick(entries);
-        return (job(entry), key(entry));
+    match own_entry(random, world) {
+        Some(entry) => (job(entry), key(entry)),
+        None => {
+            let key = random.pick(keys);
+            (random.below(JOBS) as u8, key)
+        }
     }
-    let key = random.pick(keys);
-    (random.below(JOBS) as u8, key)
 }
 
 /// Operations that follow some calls that make room for them.

@@ -1,5 +1,6 @@
 //! What the tests and the benchmark run the service on, all of it made from fixed seeds.
 
+pub mod counts;
 pub mod damage;
 pub mod editions;
 pub mod histories;

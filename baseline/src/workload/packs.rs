@@ -1,5 +1,6 @@
 //! Sound sessions of several sorts, most of them with full tables.
 
+use super::counts::recount;
 use super::histories::stretch_until;
 use super::random::Random;
 use super::world::World;
@@ -105,6 +106,7 @@ impl Sort {
             _ => self.changed_once(&mut random),
         };
         world.session.rule = rule;
+        recount(&mut world);
         world
     }
 

@@ -45,9 +45,9 @@ impl Random {
         Origin { job, sheet }
     }
 
-    /// The key of a tile of a chart pack, at one of the levels 8 to 14.
+    /// The key of a tile of a chart pack, at any level.
     pub fn key(&mut self) -> u32 {
-        let zoom = 8 + self.below(7);
+        let zoom = 4 + self.below(11);
         let column = self.below(1 << zoom);
         let row = self.below(1 << zoom);
         (zoom << 28 | column << 14 | row) as u32

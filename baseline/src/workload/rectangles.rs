@@ -1,5 +1,6 @@
 //! Rectangles: any near some tiles, and those of the most tiles on tables with room for just them.
 
+use super::counts::recount;
 use super::editions::{any_edition, rows_from_south};
 use super::packs::Sort;
 use super::random::Random;
@@ -126,6 +127,7 @@ pub fn roomy_pack(rule: Rule, change: Change, seed: u64) -> (World, Rectangle) {
     let rectangle = square_without(&avoided, seed);
     if change == Change::Delete {
         put_in(used, &avoided, rectangle);
+        recount(&mut world);
     }
     (world, rectangle)
 }

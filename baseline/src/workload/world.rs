@@ -32,7 +32,7 @@ impl World {
     /// Tables of the largest lengths with these tiles, which need not be in order, and no job.
     pub fn with_tiles(mut tiles: Vec<u32>) -> World {
         tiles.sort_unstable();
-        let session = Session::fresh(Rule::Alone, tiles.len());
+        let session = Session::fresh(Rule::Alone, &tiles);
         tiles.resize(MOST_TILES, 0);
         World {
             session,

@@ -6,7 +6,7 @@ use baseline::journal::{read, Reading, Record};
 use baseline::rectangle::Change;
 use baseline::rule::Rule;
 use baseline::workload::damage::damage;
-use baseline::workload::histories::{any_call, recorded, small_world};
+use baseline::workload::histories::{any_call, any_next_call, recorded, small_world};
 use baseline::workload::journals::{spoilt, with_older_records, write_full, Load};
 use baseline::workload::packs::{Sort, IDLE_JOB};
 use baseline::workload::random::Random;
@@ -166,7 +166,7 @@ fn compare_small_histories(census: &mut Census, rule: Rule) -> Agreed {
         let count = world.session.tiles;
         compare_call(census, &mut world, Call::Start(count, rule))?;
         for _ in 0..CALLS_OF_A_HISTORY {
-            let call = any_call(&mut random, &keys, 5);
+            let call = any_next_call(&mut random, &keys, 5, &world);
             compare_checks(&mut world)?;
             compare_call(census, &mut world, call)?;
         }
