@@ -22,19 +22,28 @@ fn rule_number(rule: Rule) -> usize {
     }
 }
 
-// A session of its parts: the marks, the counts of tiles, operations and journal bytes, and the number of its rule.
-fn session_of(marks: &[bool; 64], parts: &[usize; 4]) -> Session {
+// A session of its parts: the marks, the counts of tiles, operations and journal bytes with the number of its rule, the tiles of each level, and the places spoken for.
+fn session_of(marks: &[bool; 64], parts: &[usize; 4], levels: &[u32; 11], spoken: &u32) -> Session {
     Session {
         rule: rule_of(parts[3]),
         marks: *marks,
         tiles: parts[0],
         operations: parts[1],
         journal: parts[2],
+        levels: *levels,
+        spoken: *spoken,
     }
 }
 
 // Gives the next session back in its parts, and the reply as its number, answer, the holder's job and sheet, and turns.
-fn give(outcome: Outcome, marks: &mut [bool; 64], parts: &mut [usize; 4], reply: &mut [i32; 6]) {
+fn give(
+    outcome: Outcome,
+    marks: &mut [bool; 64],
+    parts: &mut [usize; 4],
+    levels: &mut [u32; 11],
+    spoken: &mut u32,
+    reply: &mut [i32; 6],
+) {
     let answered = outcome.reply;
     let told = sanbirogu::numbers(answered);
     let next = outcome.session;
@@ -45,6 +54,9 @@ fn give(outcome: Outcome, marks: &mut [bool; 64], parts: &mut [usize; 4], reply:
     parts[2] = next.journal;
     let rule = next.rule;
     parts[3] = rule_number(rule);
+    let counts = next.levels;
+    *levels = counts;
+    *spoken = next.spoken;
     reply[0] = told.number as i32;
     reply[1] = told.answer as i32;
     reply[2] = told.holder as i32;
@@ -68,17 +80,26 @@ fn procedure_of(number: u8) -> Procedure {
 pub extern "C" fn bench_sound(
     marks: &[bool; 64],
     parts: &[usize; 4],
+    levels: &[u32; 11],
+    spoken: &u32,
     tiles: &[u32],
     operations: &[u64],
     journal: &[u8],
 ) -> bool {
-    soundness::sound(session_of(marks, parts), tiles, operations, journal)
+    soundness::sound(
+        session_of(marks, parts, levels, spoken),
+        tiles,
+        operations,
+        journal,
+    )
 }
 
 #[no_mangle]
 pub extern "C" fn bench_start(
     marks: &mut [bool; 64],
     parts: &mut [usize; 4],
+    levels: &mut [u32; 11],
+    spoken: &mut u32,
     tiles: &[u32],
     operations: &mut [u64],
     journal: &mut [u8],
@@ -87,28 +108,32 @@ pub extern "C" fn bench_start(
     reply: &mut [i32; 6],
 ) {
     let outcome = sanbirogu::start(tiles, count, operations, journal, rule_of(rule));
-    give(outcome, marks, parts, reply);
+    give(outcome, marks, parts, levels, spoken, reply);
 }
 
 #[no_mangle]
 pub extern "C" fn bench_open(
     marks: &mut [bool; 64],
     parts: &mut [usize; 4],
+    levels: &mut [u32; 11],
+    spoken: &mut u32,
     tiles: &[u32],
     operations: &[u64],
     journal: &mut [u8],
     job: u8,
     reply: &mut [i32; 6],
 ) {
-    let session = session_of(marks, parts);
+    let session = session_of(marks, parts, levels, spoken);
     let outcome = sanbirogu::open(session, tiles, operations, journal, job);
-    give(outcome, marks, parts, reply);
+    give(outcome, marks, parts, levels, spoken, reply);
 }
 
 #[no_mangle]
 pub extern "C" fn bench_operation(
     marks: &mut [bool; 64],
     parts: &mut [usize; 4],
+    levels: &mut [u32; 11],
+    spoken: &mut u32,
     tiles: &mut [u32],
     operations: &mut [u64],
     journal: &mut [u8],
@@ -121,7 +146,7 @@ pub extern "C" fn bench_operation(
     row: i32,
     reply: &mut [i32; 6],
 ) {
-    let session = session_of(marks, parts);
+    let session = session_of(marks, parts, levels, spoken);
     let address = Address {
         edition,
         zoom,
@@ -138,7 +163,7 @@ pub extern "C" fn bench_operation(
         procedure_of(procedure),
         address,
     );
-    give(outcome, marks, parts, reply);
+    give(outcome, marks, parts, levels, spoken, reply);
 }
 
 // What is done to each tile of a rectangle, by a number: 2 for delete, and insert for all others.
@@ -153,6 +178,8 @@ fn change_of(number: u8) -> Change {
 pub extern "C" fn bench_rectangle(
     marks: &mut [bool; 64],
     parts: &mut [usize; 4],
+    levels: &mut [u32; 11],
+    spoken: &mut u32,
     tiles: &mut [u32],
     operations: &mut [u64],
     journal: &mut [u8],
@@ -167,7 +194,7 @@ pub extern "C" fn bench_rectangle(
     bottom: i32,
     reply: &mut [i32; 6],
 ) {
-    let session = session_of(marks, parts);
+    let session = session_of(marks, parts, levels, spoken);
     let area = Rectangle {
         edition,
         zoom,
@@ -186,37 +213,41 @@ pub extern "C" fn bench_rectangle(
         change_of(change),
         area,
     );
-    give(outcome, marks, parts, reply);
+    give(outcome, marks, parts, levels, spoken, reply);
 }
 
 #[no_mangle]
 pub extern "C" fn bench_commit(
     marks: &mut [bool; 64],
     parts: &mut [usize; 4],
+    levels: &mut [u32; 11],
+    spoken: &mut u32,
     tiles: &[u32],
     operations: &mut [u64],
     journal: &mut [u8],
     job: u8,
     reply: &mut [i32; 6],
 ) {
-    let session = session_of(marks, parts);
+    let session = session_of(marks, parts, levels, spoken);
     let outcome = sanbirogu::commit(session, tiles, operations, journal, job);
-    give(outcome, marks, parts, reply);
+    give(outcome, marks, parts, levels, spoken, reply);
 }
 
 #[no_mangle]
 pub extern "C" fn bench_abort(
     marks: &mut [bool; 64],
     parts: &mut [usize; 4],
+    levels: &mut [u32; 11],
+    spoken: &mut u32,
     tiles: &mut [u32],
     operations: &mut [u64],
     journal: &mut [u8],
     job: u8,
     reply: &mut [i32; 6],
 ) {
-    let session = session_of(marks, parts);
+    let session = session_of(marks, parts, levels, spoken);
     let outcome = sanbirogu::abort(session, tiles, operations, journal, job);
-    give(outcome, marks, parts, reply);
+    give(outcome, marks, parts, levels, spoken, reply);
 }
 
 // The reply is here the number, the offset, the jobs undone and the count of tiles left.

@@ -1,6 +1,7 @@
 //! The proved calls. A slice goes as a pointer and a length, an array as a pointer.
 
 use baseline::entry::Origin;
+use baseline::levels::LEVELS;
 use baseline::rectangle::Rectangle;
 use baseline::rule::Rule;
 use baseline::session::Session;
@@ -21,11 +22,16 @@ type Marks = [bool; 64];
 /// The counts of tiles, operations and journal bytes, and the number of the rule.
 type Parts = [usize; 4];
 
+/// The tiles of each level; like the places spoken for they have 32 bits in the proved session.
+type Levels = [u32; LEVELS];
+
 #[link(name = "bench", kind = "static")]
 extern "C" {
     fn bench_sound(
         marks: *const Marks,
         parts: *const Parts,
+        levels: *const Levels,
+        spoken: *const u32,
         tiles: *const u32,
         tile_places: usize,
         operations: *const u64,
@@ -36,6 +42,8 @@ extern "C" {
     fn bench_start(
         marks: *mut Marks,
         parts: *mut Parts,
+        levels: *mut Levels,
+        spoken: *mut u32,
         tiles: *const u32,
         tile_places: usize,
         operations: *mut u64,
@@ -49,6 +57,8 @@ extern "C" {
     fn bench_open(
         marks: *mut Marks,
         parts: *mut Parts,
+        levels: *mut Levels,
+        spoken: *mut u32,
         tiles: *const u32,
         tile_places: usize,
         operations: *const u64,
@@ -61,6 +71,8 @@ extern "C" {
     fn bench_operation(
         marks: *mut Marks,
         parts: *mut Parts,
+        levels: *mut Levels,
+        spoken: *mut u32,
         tiles: *mut u32,
         tile_places: usize,
         operations: *mut u64,
@@ -79,6 +91,8 @@ extern "C" {
     fn bench_rectangle(
         marks: *mut Marks,
         parts: *mut Parts,
+        levels: *mut Levels,
+        spoken: *mut u32,
         tiles: *mut u32,
         tile_places: usize,
         operations: *mut u64,
@@ -99,6 +113,8 @@ extern "C" {
     fn bench_commit(
         marks: *mut Marks,
         parts: *mut Parts,
+        levels: *mut Levels,
+        spoken: *mut u32,
         tiles: *const u32,
         tile_places: usize,
         operations: *mut u64,
@@ -111,6 +127,8 @@ extern "C" {
     fn bench_abort(
         marks: *mut Marks,
         parts: *mut Parts,
+        levels: *mut Levels,
+        spoken: *mut u32,
         tiles: *mut u32,
         tile_places: usize,
         operations: *mut u64,
@@ -132,30 +150,53 @@ extern "C" {
     );
 }
 
-fn parts_of(session: &Session) -> Parts {
-    let rule = session.rule as usize;
-    [session.tiles, session.operations, session.journal, rule]
+/// A session in its parts, as it comes and goes.
+struct Passed {
+    marks: Marks,
+    parts: Parts,
+    levels: Levels,
+    spoken: u32,
 }
 
-fn session_of(marks: Marks, parts: Parts) -> Session {
-    let [tiles, operations, journal, number] = parts;
-    let rule = Rule::ALL.into_iter().find(|&rule| rule as usize == number);
-    Session {
-        rule: rule.expect("the number of a rule"),
-        marks,
-        tiles,
-        operations,
-        journal,
+impl Passed {
+    fn of(session: &Session) -> Passed {
+        let rule = session.rule as usize;
+        Passed {
+            marks: session.marks,
+            parts: [session.tiles, session.operations, session.journal, rule],
+            levels: session.levels.map(in_32_bits),
+            spoken: in_32_bits(session.spoken),
+        }
+    }
+
+    fn session(self) -> Session {
+        let [tiles, operations, journal, number] = self.parts;
+        let rule = Rule::ALL.into_iter().find(|&rule| rule as usize == number);
+        Session {
+            rule: rule.expect("the number of a rule"),
+            marks: self.marks,
+            tiles,
+            operations,
+            journal,
+            levels: self.levels.map(|count| count as usize),
+            spoken: self.spoken as usize,
+        }
     }
 }
 
+fn in_32_bits(count: usize) -> u32 {
+    u32::try_from(count).expect("a count of 32 bits")
+}
+
 pub fn is_sound(world: &World) -> bool {
-    let parts = parts_of(&world.session);
+    let passed = Passed::of(&world.session);
     // SAFETY: each pointer is to as many elements as its length says, and is only read
     unsafe {
         bench_sound(
-            &world.session.marks,
-            &parts,
+            &passed.marks,
+            &passed.parts,
+            &passed.levels,
+            &passed.spoken,
             world.tiles.as_ptr(),
             world.tiles.len(),
             world.operations.as_ptr(),
@@ -168,12 +209,14 @@ pub fn is_sound(world: &World) -> bool {
 
 /// A function with the arguments that all calls on a session have, and then its own.
 macro_rules! on_session {
-    ($function:ident($marks:expr, $parts:expr, $world:expr $(, $argument:expr)*)) => {
+    ($function:ident($passed:expr, $world:expr $(, $argument:expr)*)) => {
         // SAFETY: each pointer is to as many elements as its length says, and no two overlap
         unsafe {
             $function(
-                $marks,
-                $parts,
+                &mut $passed.marks,
+                &mut $passed.parts,
+                &mut $passed.levels,
+                &mut $passed.spoken,
                 $world.tiles.as_mut_ptr(),
                 $world.tiles.len(),
                 $world.operations.as_mut_ptr(),
@@ -188,14 +231,13 @@ macro_rules! on_session {
 
 pub fn call(world: &mut World, call: Call) -> Told {
     let mut reply: Numbers = [0; 6];
-    let mut marks = world.session.marks;
-    let mut parts = parts_of(&world.session);
-    let (m, p, r) = (&mut marks, &mut parts, &mut reply);
+    let mut passed = Passed::of(&world.session);
+    let (p, r) = (&mut passed, &mut reply);
     match call {
         Call::Start(count, rule) => {
-            on_session!(bench_start(m, p, world, count, rule as usize, r))
+            on_session!(bench_start(p, world, count, rule as usize, r))
         }
-        Call::Open(job) => on_session!(bench_open(m, p, world, job, r)),
+        Call::Open(job) => on_session!(bench_open(p, world, job, r)),
         Call::Operation(Origin { job, sheet }, procedure, address) => {
             let Address {
                 edition,
@@ -205,7 +247,7 @@ pub fn call(world: &mut World, call: Call) -> Told {
             } = address;
             let asked = procedure as u8;
             on_session!(bench_operation(
-                m, p, world, job, sheet, asked, edition, zoom, column, row, r
+                p, world, job, sheet, asked, edition, zoom, column, row, r
             ))
         }
         Call::Rectangle(Origin { job, sheet }, change, rectangle) => {
@@ -219,13 +261,13 @@ pub fn call(world: &mut World, call: Call) -> Told {
             } = rectangle;
             let asked = change as u8;
             on_session!(bench_rectangle(
-                m, p, world, job, sheet, asked, edition, zoom, west, east, top, bottom, r
+                p, world, job, sheet, asked, edition, zoom, west, east, top, bottom, r
             ))
         }
-        Call::Commit(job) => on_session!(bench_commit(m, p, world, job, r)),
-        Call::Abort(job) => on_session!(bench_abort(m, p, world, job, r)),
+        Call::Commit(job) => on_session!(bench_commit(p, world, job, r)),
+        Call::Abort(job) => on_session!(bench_abort(p, world, job, r)),
     }
-    world.session = session_of(marks, parts);
+    world.session = passed.session();
     reply.map(i64::from)
 }
 
