@@ -158,9 +158,10 @@ pub fn stretch_until(
         let (job, key) = job_and_tile(random, keys, world);
         let origin = random.origin(job);
         let call = Call::Operation(origin, random.pick(&ASKED), address_of(random, key));
-        if world.call(Check::Filter, call) == Err(Refusal::NoOperationRoom) {
-            found_full += 1;
-        }
+        let reply = world.call(Check::Filter, call);
+        // or it would go on for ever
+        assert_ne!(reply, Err(Refusal::NotSound), "before {call:?}");
+        found_full += usize::from(reply == Err(Refusal::NoOperationRoom));
         operations.push(call);
     }
     operations

@@ -64,7 +64,10 @@ pub fn write_full(
             let origin = random.origin(job);
             Call::Operation(origin, random.pick(&ASKED), address_of(random, key))
         };
-        if world.call(Check::Filter, call) == Err(Refusal::NoJournalRoom) {
+        let reply = world.call(Check::Filter, call);
+        // or it would go on for ever
+        assert_ne!(reply, Err(Refusal::NotSound), "before {call:?}");
+        if reply == Err(Refusal::NoJournalRoom) {
             break;
         }
     }
