@@ -3,8 +3,7 @@
 //! the first of them have its job. Each way to decide it answers how many places are reserved: one
 //! for each absent tile that an unfinished delete may bring back, whose last change is that delete.
 
-use crate::entry::{changes_its_tile, job, key, kind, DELETED};
-use crate::session::MOST_OPERATIONS;
+use crate::entry::{changes_its_tile, job, key, kind, DELETED, INSERTED};
 use crate::soundness::{is_as_left, slot};
 use std::collections::HashMap;
 
@@ -74,21 +73,24 @@ pub fn goes_on(change: u64, later: u64) -> bool {
     job(later) == job(change) && kind(later) != kind(change)
 }
 
-/// The places that a job's entries of sound tables reserve: of its deletes, those behind which it
-/// changed the tile no more.
-pub fn reserved_by_job(entries: &[u64], owner: u8) -> usize {
-    let mut links = Links::new();
-    let mut reserved = 0;
-    for (at, &e) in entries.iter().enumerate().rev() {
-        if job(e) == owner && changes_its_tile(e) {
-            let later = links.put(key(e), at);
-            let is_last = links
-                .find(later, entries, |later| key(later) == key(e))
-                .is_none();
-            reserved += usize::from(is_last && kind(e) == DELETED);
+/// How many of a job's deletes in sound tables reserve no place, for it inserted the tile again.
+pub fn taken_back(entries: &[u64], owner: u8) -> usize {
+    // both are asked, so that the count can be vectorised
+    let is_delete = |&&e: &&u64| (job(e) == owner) & (kind(e) == DELETED);
+    let deletes = entries.iter().filter(is_delete).count();
+    if deletes == 0 {
+        return 0;
+    }
+    let mut deleted = KeySet::with_room_for(deletes);
+    let mut taken_back = 0;
+    for &e in entries.iter().filter(|&&e| job(e) == owner) {
+        match kind(e) {
+            DELETED => deleted.insert(key(e)),
+            INSERTED => taken_back += usize::from(deleted.contains(key(e))),
+            _ => {}
         }
     }
-    reserved
+    taken_back
 }
 
 /// For each slot of a hash the place that was put in last: going from the last entry to the first,
@@ -113,45 +115,37 @@ impl Nearest {
     }
 }
 
-/// The entries that were put in, linked for each slot of a hash, the nearest first.
-pub(crate) struct Links {
-    firsts: [u16; Links::SLOTS],
-    nexts: [u16; MOST_OPERATIONS],
+/// The keys that were put in, each in the first slot that was free from its own on.
+struct KeySet {
+    slots: Vec<u32>,
 }
 
-impl Links {
-    const SLOTS: usize = 1 << 12;
-    const NONE: u16 = u16::MAX;
+impl KeySet {
+    const FREE: u32 = 0;
 
-    pub(crate) fn new() -> Links {
-        Links {
-            firsts: [Links::NONE; Links::SLOTS],
-            nexts: [Links::NONE; MOST_OPERATIONS],
-        }
+    /// At most half of the slots will be taken.
+    fn with_room_for(keys: usize) -> KeySet {
+        let slots = vec![KeySet::FREE; (2 * keys).next_power_of_two()];
+        KeySet { slots }
     }
 
-    /// Puts an entry in, and answers where those begin that its slot had before.
-    pub(crate) fn put(&mut self, key: u32, at: usize) -> u16 {
-        let first = &mut self.firsts[slot(key) % Links::SLOTS];
-        let before = std::mem::replace(first, at as u16);
-        self.nexts[at] = before;
-        before
+    /// Puts a valid key in, if it is not there.
+    fn insert(&mut self, key: u32) {
+        let at = self.place_of(key);
+        self.slots[at] = key;
     }
 
-    /// The first entry of a slot from there on that is the one.
-    pub(crate) fn find(
-        &self,
-        mut at: u16,
-        entries: &[u64],
-        is_it: impl Fn(u64) -> bool,
-    ) -> Option<u64> {
-        while at != Links::NONE {
-            let entry = entries[usize::from(at)];
-            if is_it(entry) {
-                return Some(entry);
-            }
-            at = self.nexts[usize::from(at)];
+    fn contains(&self, key: u32) -> bool {
+        self.slots[self.place_of(key)] == key
+    }
+
+    /// Where a valid key is or would be.
+    fn place_of(&self, key: u32) -> usize {
+        let last = self.slots.len() - 1;
+        let mut at = slot(key) & last;
+        while ![KeySet::FREE, key].contains(&self.slots[at]) {
+            at = (at + 1) & last;
         }
-        None
+        at
     }
 }

@@ -126,29 +126,25 @@ pub fn undo(session: &mut Session, tiles: &mut [u32], operations: &[u64], ending
     }
 }
 
-/// The places that the job's entries reserve.
-fn reserved_by(rule: Rule, entries: &[u64], owner: u8) -> usize {
-    match rule {
-        Rule::Alone => {
-            let is_delete = |&&e: &&u64| job(e) == owner && kind(e) == DELETED;
-            entries.iter().filter(is_delete).count()
-        }
-        Rule::Together => chains::reserved_by_job(entries, owner),
-    }
-}
-
 /// Takes a job's entries away, with the places that they reserve, and closes it.
 pub fn close(session: &mut Session, operations: &mut [u64], ending: u8) {
     let used = session.operations;
-    session.spoken -= reserved_by(session.rule, &operations[..used], ending);
+    let taken_back = match session.rule {
+        Rule::Alone => 0,
+        Rule::Together => chains::taken_back(&operations[..used], ending),
+    };
     let mut kept = 0;
+    let mut deletes = 0;
     for at in 0..used {
         let entry = operations[at];
-        if job(entry) != ending {
+        if job(entry) == ending {
+            deletes += usize::from(kind(entry) == DELETED);
+        } else {
             operations[kept] = entry;
             kept += 1;
         }
     }
+    session.spoken -= deletes - taken_back;
     operations[kept..used].fill(0);
     session.operations = kept;
     session.marks[usize::from(ending)] = false;

@@ -23,17 +23,34 @@ fn level_at(served_zoom: u32) -> usize {
     (served_zoom - ZOOMS.start()) as usize
 }
 
-pub fn counted_by_pass(tiles: &[u32]) -> Levels {
-    let mut levels = [0; LEVELS];
+pub fn hold_by_pass(levels: &Levels, tiles: &[u32]) -> bool {
+    let mut counted = [0; LEVELS];
     for &tile in tiles {
-        levels[level_of(tile)] += 1;
+        counted[level_of(tile)] += 1;
     }
-    levels
+    counted == *levels
 }
 
-/// The good baseline. Ascending tiles have their levels one after another: the end of each is
-/// looked for behind the one before.
-pub fn counted_by_search(ascending: &[u32]) -> Levels {
+/// The good baseline. Tiles ascend, and so do their levels: what begins and ends with tiles of one
+/// level is all of it.
+pub fn hold_by_stretches(levels: &Levels, ascending: &[u32]) -> bool {
+    let mut rest = ascending;
+    for (level, &count) in levels.iter().enumerate() {
+        if count > rest.len() {
+            return false;
+        }
+        let (stretch, others) = rest.split_at(count);
+        let mut ends = [stretch.first(), stretch.last()].into_iter().flatten();
+        if ends.any(|&tile| level_of(tile) != level) {
+            return false;
+        }
+        rest = others;
+    }
+    rest.is_empty()
+}
+
+/// The end of each level is looked for behind the one before.
+pub fn counted(ascending: &[u32]) -> Levels {
     let mut rest = ascending;
     from_fn(|level| {
         let count = rest.partition_point(|&tile| level_of(tile) == level);

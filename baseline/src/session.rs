@@ -1,6 +1,6 @@
 //! The session record and the lent tables.
 
-use crate::levels::{counted_by_search, level_of, place_of_zoom, Levels};
+use crate::levels::{counted, level_of, place_of_zoom, Levels};
 use crate::rule::Rule;
 
 pub const JOBS: usize = 64;
@@ -30,7 +30,7 @@ impl Session {
             tiles: tiles.len(),
             operations: 0,
             journal: 0,
-            levels: counted_by_search(tiles),
+            levels: counted(tiles),
             spoken: 0,
         }
     }

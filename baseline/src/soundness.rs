@@ -5,7 +5,7 @@
 use crate::chains;
 use crate::entry::{changes_its_tile, deletes, job, key, kind, INSERTED, NOT_SEEN};
 use crate::journal::JOB_RECORD;
-use crate::levels::{counted_by_pass, counted_by_search, Levels};
+use crate::levels::{hold_by_pass, hold_by_stretches, Levels};
 use crate::rule::Rule;
 use crate::session::{Session, Tables, JOBS, MOST_JOURNAL, MOST_OPERATIONS, MOST_TILES};
 use crate::tile::is_key;
@@ -25,27 +25,27 @@ impl Check {
     pub const ALL: [Check; 4] = [Check::Pairs, Check::Sets, Check::Filter, Check::Tuned];
 }
 
-/// One way to decide it, for each rule, and to count the tiles of each level.
+/// One way to decide it, for each rule, and whether the levels are counted right.
 struct Decided {
-    counted: fn(&[u32]) -> Levels,
+    levels_hold: fn(&Levels, &[u32]) -> bool,
     changed_last: fn(&[u64]) -> bool,
     reserved_if_chained: fn(&[u32], &[u64]) -> Option<usize>,
 }
 
 const PAIRS: Decided = Decided {
-    counted: counted_by_pass,
+    levels_hold: hold_by_pass,
     changed_last: changed_last_by_pairs,
     reserved_if_chained: chains::reserved_by_pairs,
 };
 
 const SETS: Decided = Decided {
-    counted: counted_by_pass,
+    levels_hold: hold_by_pass,
     changed_last: changed_last_by_set,
     reserved_if_chained: chains::reserved_by_map,
 };
 
 const FILTER: Decided = Decided {
-    counted: counted_by_search,
+    levels_hold: hold_by_stretches,
     changed_last: changed_last_by_filter,
     reserved_if_chained: chains::reserved_by_nearest,
 };
@@ -95,7 +95,7 @@ fn tables_hold(session: &Session, tables: &Tables, decided: Decided) -> bool {
     let (entries, unused) = tables.operations.split_at(session.operations);
     let used = &tables.tiles[..session.tiles];
     tiles_hold(tables.tiles, session.tiles)
-        && session.levels == (decided.counted)(used)
+        && (decided.levels_hold)(&session.levels, used)
         && entries.iter().all(|&e| entry_fits(&session.marks, e))
         && unused.iter().all(|&e| e == 0)
         && reserved_if_settled(session.rule, used, entries, decided) == Some(session.spoken)

@@ -1,12 +1,12 @@
 //! The soundness check tuned by hand: no early exit where a loop can be vectorised, keys tested by
 //! a table of masks, and one pass over the entries, from the last to the first.
 
-use crate::chains::{decides, goes_on, Links};
+use crate::chains::{decides, goes_on};
 use crate::entry::{changes_its_tile, job, key, kind, DELETED, INSERTED, NOT_SEEN};
-use crate::levels::counted_by_search;
+use crate::levels::hold_by_stretches;
 use crate::rule::Rule;
-use crate::session::Session;
-use crate::soundness::{is_as_left, KeyFilter};
+use crate::session::{Session, MOST_OPERATIONS};
+use crate::soundness::{is_as_left, slot, KeyFilter};
 
 /// For each zoom the bits that no key of it has; all of them where the zoom is not served.
 const FOREIGN_BITS: [u32; 16] = foreign_bits();
@@ -32,7 +32,7 @@ pub fn tables_hold(session: &Session, tiles: &[u32], operations: &[u64]) -> bool
         return false;
     }
     let used = &tiles[..session.tiles];
-    if counted_by_search(used) != session.levels {
+    if !hold_by_stretches(&session.levels, used) {
         return false;
     }
     let reserved = match session.rule {
@@ -110,4 +110,42 @@ fn is_last(entries: &[u64], at: usize) -> bool {
     let own = key(entries[at]);
     let later = entries[at + 1..].iter();
     !later.fold(false, |found, &e| found | (key(e) == own))
+}
+
+/// The entries that were put in, linked for each slot of a hash, the nearest first.
+struct Links {
+    firsts: [u16; Links::SLOTS],
+    nexts: [u16; MOST_OPERATIONS],
+}
+
+impl Links {
+    const SLOTS: usize = 1 << 12;
+    const NONE: u16 = u16::MAX;
+
+    fn new() -> Links {
+        Links {
+            firsts: [Links::NONE; Links::SLOTS],
+            nexts: [Links::NONE; MOST_OPERATIONS],
+        }
+    }
+
+    /// Puts an entry in, and answers where those begin that its slot had before.
+    fn put(&mut self, key: u32, at: usize) -> u16 {
+        let first = &mut self.firsts[slot(key) % Links::SLOTS];
+        let before = std::mem::replace(first, at as u16);
+        self.nexts[at] = before;
+        before
+    }
+
+    /// The first entry of a slot from there on that is the one.
+    fn find(&self, mut at: u16, entries: &[u64], is_it: impl Fn(u64) -> bool) -> Option<u64> {
+        while at != Links::NONE {
+            let entry = entries[usize::from(at)];
+            if is_it(entry) {
+                return Some(entry);
+            }
+            at = self.nexts[usize::from(at)];
+        }
+        None
+    }
 }

@@ -2,7 +2,7 @@
 
 mod common;
 
-use baseline::chains::reserved_by_job;
+use baseline::chains::taken_back;
 use baseline::entry::{entry, job, key, kind, origin};
 use baseline::rule::Rule;
 use baseline::soundness::Check;
@@ -71,7 +71,7 @@ fn an_absent_tile_with_a_delete_is_counted_once() {
         recount(&mut case.world);
         assert_eq!(is_sound(&mut case.world), expected, "{present:?} {places}");
         assert_eq!(case.world.session.spoken, 1);
-        assert_eq!([1, 2].map(|job| reserved_by_job(&chain, job)), [1, 0]);
+        assert_eq!([1, 2].map(|job| taken_back(&chain, job)), [1, 0]);
     }
     assert!(is_sound_with(1, true, &[(3, 1), (1, 1), (3, 1), (1, 1)]));
 }

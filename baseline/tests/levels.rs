@@ -3,7 +3,7 @@
 
 mod common;
 
-use baseline::levels::{counted_by_pass, counted_by_search, Levels, LEVELS};
+use baseline::levels::{counted, hold_by_pass, hold_by_stretches, Levels, LEVELS};
 use baseline::rectangle::Change;
 use baseline::reply::Refusal;
 use baseline::rule::Rule;
@@ -219,21 +219,28 @@ fn the_pack_screen_asks_by_zoom() {
     }
 }
 
+/// All ways to count say what a fresh count does, and both that nothing else holds.
+fn assert_counted(tiles: &[u32]) {
+    let right = counted(tiles);
+    assert_eq!(right, fresh_levels(&World::with_tiles(tiles.to_vec())));
+    for (one, other) in (0..LEVELS * LEVELS).map(|at| (at / LEVELS, at % LEVELS)) {
+        let mut levels = right;
+        levels[one] = levels[one].wrapping_sub(1);
+        levels[other] = levels[other].wrapping_add(1);
+        assert_eq!(hold_by_pass(&levels, tiles), one == other);
+        assert_eq!(hold_by_stretches(&levels, tiles), one == other);
+    }
+}
+
 #[test]
-fn both_ways_to_count_say_the_same() {
+fn every_way_to_count_says_the_same() {
     let mut random = Random::seeded(72);
     for count in (0..60).chain([4_096]) {
-        let mut world = World::with_tiles(random.distinct_keys(Vec::new(), count));
-        let used = &world.tiles[..count];
-        assert_eq!(counted_by_pass(used), fresh_levels(&world));
-        assert_eq!(counted_by_search(used), fresh_levels(&world));
+        let mut tiles = random.distinct_keys(Vec::new(), count);
+        tiles.sort_unstable();
+        assert_counted(&tiles);
         // the same with a level that has none
-        world
-            .tiles
-            .retain(|&tile| tile >> 28 != 4 + count as u32 % 11);
-        world.session.tiles = world.tiles.iter().filter(|&&tile| tile != 0).count();
-        let used = &world.tiles[..world.session.tiles];
-        assert_eq!(counted_by_pass(used), fresh_levels(&world));
-        assert_eq!(counted_by_search(used), fresh_levels(&world));
+        tiles.retain(|&tile| tile >> 28 != 4 + count as u32 % 11);
+        assert_counted(&tiles);
     }
 }
