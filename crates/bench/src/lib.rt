@@ -22,8 +22,8 @@ fn rule_number(rule: Rule) -> usize {
     }
 }
 
-// A session of its parts: the marks, the counts of tiles, operations and journal bytes with the number of its rule, the tiles of each level, and the places spoken for.
-fn session_of(marks: &[bool; 64], parts: &[usize; 4], levels: &[u32; 11], spoken: &u32) -> Session {
+// A session of its parts: the marks, the counts of tiles, operations and journal bytes, the number of its rule with the places spoken for, and the tiles of each level.
+fn session_of(marks: &[bool; 64], parts: &[usize; 5], levels: &[usize; 11]) -> Session {
     Session {
         rule: rule_of(parts[3]),
         marks: *marks,
@@ -31,7 +31,7 @@ fn session_of(marks: &[bool; 64], parts: &[usize; 4], levels: &[u32; 11], spoken
         operations: parts[1],
         journal: parts[2],
         levels: *levels,
-        spoken: *spoken,
+        spoken: parts[4],
     }
 }
 
@@ -39,9 +39,8 @@ fn session_of(marks: &[bool; 64], parts: &[usize; 4], levels: &[u32; 11], spoken
 fn give(
     outcome: Outcome,
     marks: &mut [bool; 64],
-    parts: &mut [usize; 4],
-    levels: &mut [u32; 11],
-    spoken: &mut u32,
+    parts: &mut [usize; 5],
+    levels: &mut [usize; 11],
     reply: &mut [i32; 6],
 ) {
     let answered = outcome.reply;
@@ -56,7 +55,7 @@ fn give(
     parts[3] = rule_number(rule);
     let counts = next.levels;
     *levels = counts;
-    *spoken = next.spoken;
+    parts[4] = next.spoken;
     reply[0] = told.number as i32;
     reply[1] = told.answer as i32;
     reply[2] = told.holder as i32;
@@ -79,27 +78,20 @@ fn procedure_of(number: u8) -> Procedure {
 #[no_mangle]
 pub extern "C" fn bench_sound(
     marks: &[bool; 64],
-    parts: &[usize; 4],
-    levels: &[u32; 11],
-    spoken: &u32,
+    parts: &[usize; 5],
+    levels: &[usize; 11],
     tiles: &[u32],
     operations: &[u64],
     journal: &[u8],
 ) -> bool {
-    soundness::sound(
-        session_of(marks, parts, levels, spoken),
-        tiles,
-        operations,
-        journal,
-    )
+    soundness::sound(session_of(marks, parts, levels), tiles, operations, journal)
 }
 
 #[no_mangle]
 pub extern "C" fn bench_start(
     marks: &mut [bool; 64],
-    parts: &mut [usize; 4],
-    levels: &mut [u32; 11],
-    spoken: &mut u32,
+    parts: &mut [usize; 5],
+    levels: &mut [usize; 11],
     tiles: &[u32],
     operations: &mut [u64],
     journal: &mut [u8],
@@ -108,32 +100,30 @@ pub extern "C" fn bench_start(
     reply: &mut [i32; 6],
 ) {
     let outcome = sanbirogu::start(tiles, count, operations, journal, rule_of(rule));
-    give(outcome, marks, parts, levels, spoken, reply);
+    give(outcome, marks, parts, levels, reply);
 }
 
 #[no_mangle]
 pub extern "C" fn bench_open(
     marks: &mut [bool; 64],
-    parts: &mut [usize; 4],
-    levels: &mut [u32; 11],
-    spoken: &mut u32,
+    parts: &mut [usize; 5],
+    levels: &mut [usize; 11],
     tiles: &[u32],
     operations: &[u64],
     journal: &mut [u8],
     job: u8,
     reply: &mut [i32; 6],
 ) {
-    let session = session_of(marks, parts, levels, spoken);
+    let session = session_of(marks, parts, levels);
     let outcome = sanbirogu::open(session, tiles, operations, journal, job);
-    give(outcome, marks, parts, levels, spoken, reply);
+    give(outcome, marks, parts, levels, reply);
 }
 
 #[no_mangle]
 pub extern "C" fn bench_operation(
     marks: &mut [bool; 64],
-    parts: &mut [usize; 4],
-    levels: &mut [u32; 11],
-    spoken: &mut u32,
+    parts: &mut [usize; 5],
+    levels: &mut [usize; 11],
     tiles: &mut [u32],
     operations: &mut [u64],
     journal: &mut [u8],
@@ -146,7 +136,7 @@ pub extern "C" fn bench_operation(
     row: i32,
     reply: &mut [i32; 6],
 ) {
-    let session = session_of(marks, parts, levels, spoken);
+    let session = session_of(marks, parts, levels);
     let address = Address {
         edition,
         zoom,
@@ -163,7 +153,7 @@ pub extern "C" fn bench_operation(
         procedure_of(procedure),
         address,
     );
-    give(outcome, marks, parts, levels, spoken, reply);
+    give(outcome, marks, parts, levels, reply);
 }
 
 // What is done to each tile of a rectangle, by a number: 2 for delete, and insert for all others.
@@ -177,9 +167,8 @@ fn change_of(number: u8) -> Change {
 #[no_mangle]
 pub extern "C" fn bench_rectangle(
     marks: &mut [bool; 64],
-    parts: &mut [usize; 4],
-    levels: &mut [u32; 11],
-    spoken: &mut u32,
+    parts: &mut [usize; 5],
+    levels: &mut [usize; 11],
     tiles: &mut [u32],
     operations: &mut [u64],
     journal: &mut [u8],
@@ -194,7 +183,7 @@ pub extern "C" fn bench_rectangle(
     bottom: i32,
     reply: &mut [i32; 6],
 ) {
-    let session = session_of(marks, parts, levels, spoken);
+    let session = session_of(marks, parts, levels);
     let area = Rectangle {
         edition,
         zoom,
@@ -213,41 +202,39 @@ pub extern "C" fn bench_rectangle(
         change_of(change),
         area,
     );
-    give(outcome, marks, parts, levels, spoken, reply);
+    give(outcome, marks, parts, levels, reply);
 }
 
 #[no_mangle]
 pub extern "C" fn bench_commit(
     marks: &mut [bool; 64],
-    parts: &mut [usize; 4],
-    levels: &mut [u32; 11],
-    spoken: &mut u32,
+    parts: &mut [usize; 5],
+    levels: &mut [usize; 11],
     tiles: &[u32],
     operations: &mut [u64],
     journal: &mut [u8],
     job: u8,
     reply: &mut [i32; 6],
 ) {
-    let session = session_of(marks, parts, levels, spoken);
+    let session = session_of(marks, parts, levels);
     let outcome = sanbirogu::commit(session, tiles, operations, journal, job);
-    give(outcome, marks, parts, levels, spoken, reply);
+    give(outcome, marks, parts, levels, reply);
 }
 
 #[no_mangle]
 pub extern "C" fn bench_abort(
     marks: &mut [bool; 64],
-    parts: &mut [usize; 4],
-    levels: &mut [u32; 11],
-    spoken: &mut u32,
+    parts: &mut [usize; 5],
+    levels: &mut [usize; 11],
     tiles: &mut [u32],
     operations: &mut [u64],
     journal: &mut [u8],
     job: u8,
     reply: &mut [i32; 6],
 ) {
-    let session = session_of(marks, parts, levels, spoken);
+    let session = session_of(marks, parts, levels);
     let outcome = sanbirogu::abort(session, tiles, operations, journal, job);
-    give(outcome, marks, parts, levels, spoken, reply);
+    give(outcome, marks, parts, levels, reply);
 }
 
 // The reply is here the number, the offset, the jobs undone and the count of tiles left.

@@ -19,11 +19,11 @@ pub type Rebuilt = [u64; 4];
 
 type Marks = [bool; 64];
 
-/// The counts of tiles, operations and journal bytes, and the number of the rule.
-type Parts = [usize; 4];
+/// The counts of tiles, operations and journal bytes, the number of the rule, and the places spoken for.
+type Parts = [usize; 5];
 
-/// The tiles of each level; like the places spoken for they have 32 bits in the proved session.
-type Levels = [u32; LEVELS];
+/// The tiles of each level.
+type Levels = [usize; LEVELS];
 
 #[link(name = "bench", kind = "static")]
 extern "C" {
@@ -31,7 +31,6 @@ extern "C" {
         marks: *const Marks,
         parts: *const Parts,
         levels: *const Levels,
-        spoken: *const u32,
         tiles: *const u32,
         tile_places: usize,
         operations: *const u64,
@@ -43,7 +42,6 @@ extern "C" {
         marks: *mut Marks,
         parts: *mut Parts,
         levels: *mut Levels,
-        spoken: *mut u32,
         tiles: *const u32,
         tile_places: usize,
         operations: *mut u64,
@@ -58,7 +56,6 @@ extern "C" {
         marks: *mut Marks,
         parts: *mut Parts,
         levels: *mut Levels,
-        spoken: *mut u32,
         tiles: *const u32,
         tile_places: usize,
         operations: *const u64,
@@ -72,7 +69,6 @@ extern "C" {
         marks: *mut Marks,
         parts: *mut Parts,
         levels: *mut Levels,
-        spoken: *mut u32,
         tiles: *mut u32,
         tile_places: usize,
         operations: *mut u64,
@@ -92,7 +88,6 @@ extern "C" {
         marks: *mut Marks,
         parts: *mut Parts,
         levels: *mut Levels,
-        spoken: *mut u32,
         tiles: *mut u32,
         tile_places: usize,
         operations: *mut u64,
@@ -114,7 +109,6 @@ extern "C" {
         marks: *mut Marks,
         parts: *mut Parts,
         levels: *mut Levels,
-        spoken: *mut u32,
         tiles: *const u32,
         tile_places: usize,
         operations: *mut u64,
@@ -128,7 +122,6 @@ extern "C" {
         marks: *mut Marks,
         parts: *mut Parts,
         levels: *mut Levels,
-        spoken: *mut u32,
         tiles: *mut u32,
         tile_places: usize,
         operations: *mut u64,
@@ -155,7 +148,6 @@ struct Passed {
     marks: Marks,
     parts: Parts,
     levels: Levels,
-    spoken: u32,
 }
 
 impl Passed {
@@ -163,14 +155,19 @@ impl Passed {
         let rule = session.rule as usize;
         Passed {
             marks: session.marks,
-            parts: [session.tiles, session.operations, session.journal, rule],
-            levels: session.levels.map(in_32_bits),
-            spoken: in_32_bits(session.spoken),
+            parts: [
+                session.tiles,
+                session.operations,
+                session.journal,
+                rule,
+                session.spoken,
+            ],
+            levels: session.levels,
         }
     }
 
     fn session(self) -> Session {
-        let [tiles, operations, journal, number] = self.parts;
+        let [tiles, operations, journal, number, spoken] = self.parts;
         let rule = Rule::ALL.into_iter().find(|&rule| rule as usize == number);
         Session {
             rule: rule.expect("the number of a rule"),
@@ -178,14 +175,10 @@ impl Passed {
             tiles,
             operations,
             journal,
-            levels: self.levels.map(|count| count as usize),
-            spoken: self.spoken as usize,
+            levels: self.levels,
+            spoken,
         }
     }
-}
-
-fn in_32_bits(count: usize) -> u32 {
-    u32::try_from(count).expect("a count of 32 bits")
 }
 
 pub fn is_sound(world: &World) -> bool {
@@ -196,7 +189,6 @@ pub fn is_sound(world: &World) -> bool {
             &passed.marks,
             &passed.parts,
             &passed.levels,
-            &passed.spoken,
             world.tiles.as_ptr(),
             world.tiles.len(),
             world.operations.as_ptr(),
@@ -216,7 +208,6 @@ macro_rules! on_session {
                 &mut $passed.marks,
                 &mut $passed.parts,
                 &mut $passed.levels,
-                &mut $passed.spoken,
                 $world.tiles.as_mut_ptr(),
                 $world.tiles.len(),
                 $world.operations.as_mut_ptr(),
