@@ -20,6 +20,12 @@ abbrev μ-loop : tie.MeasureT-loop
 few : (c : tie.After-shared-slice-known2 Inv-loop μ-loop) → length (now (c .before .before .before .before .before .args .story)) < 18446744073709551616
 few c = omega arith
 
+room : (test : tie.In-loop Inv-loop μ-loop) → test .before .loop .at + 4 < 18446744073709551616
+room test =
+    let known = test .before .before .before .before .before .before .before .before .before .before .before .before .before in
+    let more : test .before .loop .at + 4 ≤ length (now (known .before .before .before .before .before .args .story)) = test .loop-test .taken in
+    omega (arith, more, few known)
+
 print-requires : tie.Need-print-requires Inv-loop μ-loop
 print-requires c κs = search needs
 
@@ -36,7 +42,7 @@ add-loop : tie.Need-add-loop Inv-loop μ-loop
 add-loop c = omega arith
 
 add-step : tie.Need-add-step Inv-loop μ-loop
-add-step c = omega arith
+add-step c = omega (arith, room (c .before .before .before))
 
 sub-step : tie.Need-sub-step Inv-loop μ-loop
 sub-step c = omega arith
@@ -51,11 +57,7 @@ step-requires : tie.Need-step-requires Inv-loop μ-loop
 step-requires c κs = search needs
 
 add-at : tie.Need-add-at Inv-loop μ-loop
-add-at c =
-    let test = c .before .before .before .before .before .before .before .before .before .before .before in
-    let known = test .before .before .before .before .before .before .before .before .before .before .before .before .before in
-    let more : test .before .loop .at + 4 ≤ length (now (known .before .before .before .before .before .args .story)) = test .loop-test .taken in
-    omega (arith, more, few known)
+add-at c = omega (arith, room (c .before .before .before .before .before .before .before .before .before .before .before))
 
 loop-less : tie.Need-loop-less Inv-loop μ-loop
 loop-less c = omega arith
