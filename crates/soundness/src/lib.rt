@@ -5,7 +5,7 @@ ghost use mathlib.Core.Bool.{true};
 ghost use Prim.Native.Nat.{_≤_};
 ghost use lib.ListN.{length, take};
 ghost use Rattle.lists.specs.Lists.{All};
-ghost use Rattle.service.specs.Calls.{emptySession, fresh, startWorld};
+ghost use Rattle.service.specs.Calls.{emptySession, fresh, startWorld, unopened};
 ghost use Rattle.service.specs.Limits.{mostOperations, mostTiles};
 ghost use Rattle.service.specs.Sound.{every, soundB, tabledB};
 ghost use Rattle.service.specs.Tile.{isKey};
@@ -101,10 +101,9 @@ pub fn sound(session: Session, tiles: &[u32], operations: &[u64], journal: &[u8]
     SHORT_SIZE * scans::open_jobs(session) <= journal.len() - used
 }
 
-// A session with no job open, nothing admitted and nothing written.
-pub fn fresh_session(rule: Rule, tiles: &[u32], count: usize) -> Session
-    requires { ⌜ TileTable (now tiles) count × All (λ k. isKey k ≡ true) (take count (now tiles)) ⌝ }
-    ensures { λ r. ⌜ r ≡ fresh rule count (take count (now (tiles .entry))) ⌝ }
+// A session of so many tiles, with no job open, nothing admitted and nothing written.
+fn unopened_session(rule: Rule, count: usize, levels: [usize; 11]) -> Session
+    ensures { λ r. ⌜ r ≡ unopened rule count levels ⌝ }
 {
     Session {
         rule,
@@ -112,24 +111,24 @@ pub fn fresh_session(rule: Rule, tiles: &[u32], count: usize) -> Session
         tiles: count,
         operations: 0,
         journal: 0,
-        levels: levels::count_levels(tiles, count),
+        levels,
         spoken: 0,
     }
+}
+
+// The same, with the levels counted.
+pub fn fresh_session(rule: Rule, tiles: &[u32], count: usize) -> Session
+    requires { ⌜ TileTable (now tiles) count × All (λ k. isKey k ≡ true) (take count (now tiles)) ⌝ }
+    ensures { λ r. ⌜ r ≡ fresh rule count (take count (now (tiles .entry))) ⌝ }
+{
+    unopened_session(rule, count, levels::count_levels(tiles, count))
 }
 
 // The session of no tiles, by the first rule.
 pub fn empty_session() -> Session
     ensures { λ r. ⌜ r ≡ emptySession ⌝ }
 {
-    Session {
-        rule: Rule::Alone,
-        marks: [false; 64],
-        tiles: 0,
-        operations: 0,
-        journal: 0,
-        levels: [0usize; 11],
-        spoken: 0,
-    }
+    unopened_session(Rule::Alone, 0, [0usize; 11])
 }
 
 // Whether a tile table with its count can start a session, by either rule alike: only the number of slots of the operation table counts, for its
