@@ -1,6 +1,6 @@
 -- What the tables of a sound world are, and what each verdict rests on
 use mathlib.Core.Bool.{Bool, _&&_, cond, false, true}
-use mathlib.Core.List.{List, map}
+use mathlib.Core.List.{map}
 use mathlib.Core.Option.{Option, none, some}
 use mathlib.Core.Path.{_∙_, _≡_, ap₂, refl, subst, sym}
 use Prim.Native.Nat.{_+_, _≤_, ℕ}

@@ -120,7 +120,7 @@ pub fn print_mended(mended: Mended, sum: u64) {
 }
 
 fn print_level(session: Session, zoom: u8) {
-    print_named(b" ", sanbirogu::level_count(session, zoom) as u64);
+    print_named(b" ", sanbirogu::tiles_of_zoom(session, zoom) as u64);
 }
 
 // The tiles of each level, from the lowest zoom to the highest, as the session has them to hand.

@@ -15,7 +15,6 @@ use Rattle.strict.specs.Tiles.{Ascending}
 use Rattle.strict.specs.declared.Procedure.the-variants.{Del, Ins, Mem}
 use Rattle.strict.specs.declared.Rule.the-variants.{Alone}
 use Rattle.strict.specs.declared.Rule.{Rule}
-use Rattle.service.specs.Admission.{State}
 use Rattle.service.specs.Calls.{sessionOf, stored}
 use Rattle.service.specs.Demands.{all-marks, reached}
 use Rattle.service.specs.History.{Call, From}
@@ -24,7 +23,6 @@ use Rattle.service.specs.Laws.Storing.{tabled-stands}
 use Rattle.service.specs.Limits.{jobCount}
 use Rattle.service.specs.Sound.{soundB}
 use Rattle.service.specs.World.{World, state, usedJournal}
-use Rattle.service.specs.declared.Session.{Session}
 use Rattle.rectangles.specs.Claims.{FromMoves, Move}
 use Rattle.rectangles.specs.Theorems.{written-out}
 use Rattle.ends.specs.Ends.{EitherFirst, End, Group, Reordered, SameEnd, behind, cancels, careful, endRecords, endedBy, greedy, keeps, wary, whose}

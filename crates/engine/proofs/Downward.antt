@@ -64,7 +64,7 @@ module _ (tiles₀ : List ℕ) (count : ℕ) (es : List ℕ) (job : ℕ) (table 
         (padded-table (length tiles₀) (recoveredJob job (drop i es) (take count tiles₀)) (fits i) (undone-ascending job (drop i es) (take count tiles₀) (table .ascending)))
 
     pub tallied-now : Tallied tiles left
-    tallied-now = record { table = table-now; counted = s .number ∙ ap tallyOf (sym used-now); few = rw same-places few }
+    tallied-now = record { table = table-now; right = s .number ∙ ap tallyOf (sym used-now); few = rw same-places few }
 
     module _ (e : ℕ) (some : 0 < i) (read : e ≡ getD es (i - 1) 0) where
       taken : jobIn e ≡ job → recoveredJob job (drop (i - 1) es) (take count tiles₀) ≡ recovered e (take (left .tiles) tiles)

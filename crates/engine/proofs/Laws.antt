@@ -75,13 +75,13 @@ undone-fits job i es t asc =
 
 -- A COUNT OF THE TILES that is right, before and after a procedure
 pub tallied : (w : World) → Tabled w → Tallied (w .tiles) (tallyIn (w .session))
-tallied w o = record { table = tile-table w o; counted = sym (tally-there w o); few = o .few-tiles }
+tallied w o = record { table = tile-table w o; right = sym (tally-there w o); few = o .few-tiles }
 
 module _ {l : List ℕ} {c : Tally} (t : Tallied l c) (k : ℕ) (valid : isKey k ≡ true) where
   pub may-move : Movable c k (member k (take (c .tiles) l))
   may-move =
-      subst (λ x. Movable x k (member k (take (c .tiles) l))) (sym (t .counted))
+      subst (λ x. Movable x k (member k (take (c .tiles) l))) (sym (t .right))
       (movable k valid (take (c .tiles) l) (t .table .ascending) (omega (arith, used-length (t .table), t .table .fits, t .few)))
 
   pub moves : (p : Procedure) → tallyAfter c p k (member k (take (c .tiles) l)) ≡ tallyOf (apply (effect p) k (take (c .tiles) l))
-  moves p = ap (λ x. tallyAfter x p k (member k (take (c .tiles) l))) (t .counted) ∙ tally-kept k valid (take (c .tiles) l) (t .table .ascending) p
+  moves p = ap (λ x. tallyAfter x p k (member k (take (c .tiles) l))) (t .right) ∙ tally-kept k valid (take (c .tiles) l) (t .table .ascending) p

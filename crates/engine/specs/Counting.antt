@@ -26,17 +26,18 @@ withTally s c =
 -- a tile table, with a count of its tiles that is right
 pub record Tallied (tiles : List ℕ) (c : Tally) : Type 0 where
   pub table : TileTable tiles (c .tiles)
-  pub counted : c ≡ tallyOf (take (c .tiles) tiles)
+  pub right : c ≡ tallyOf (take (c .tiles) tiles)
   pub few : length tiles ≤ mostTiles
 
 -- the places spoken for after an operation of kind n, that needs a place or not
 abbrev pub spokenAfter : ℕ → Bool → ℕ → ℕ
 spokenAfter n needs spoken = cond (eqb n 3) (spoken + 1) (cond (eqb n 1 && not needs) (spoken - 1) spoken)
 
--- what an operation wants of the used entries, where these are unfinished
+-- whether an operation of kind n on tile k needs a place, by the rule of the session and its used entries
 abbrev pub wants : Session → List ℕ → ℕ → ℕ → Bool
 wants s o n k = wantsPlace (s .rule) (map opIn (take (s .operations) o)) n k
 
+-- what lets the places spoken for move by one
 pub record Speaks (s : Session) (o : List ℕ) (n k : ℕ) : Type 0 where
   pub fits : s .operations ≤ length o
   pub few : s .spoken ≤ mostTiles

@@ -292,8 +292,8 @@ module _ (w : World) (o : Tabled w) (job : ℕ) (s : Session) where
   pub after-open : s ≡ markedOpen (w .session) job → world s (w .tiles) (w .operations) (w .journal) ≡ withState w (perform (state w) (openJob job))
   after-open is = ap (λ (x : Session). world x (w .tiles) (w .operations) (w .journal)) is ∙ sym (open-form w o job)
 
-  pub committed : (operations : List ℕ)
+  pub after-commit : (operations : List ℕ)
       → s ≡ closed (w .session) job (length (withoutJob job (usedOperations w))) (spokenBy (w .session .rule) (usedTiles w) (others job (map opIn (usedOperations w))))
       → operations ≡ padded (length (w .operations)) (withoutJob job (usedOperations w))
       → world s (w .tiles) operations (w .journal) ≡ withState w (perform (state w) (commit job))
-  committed operations is left = ap₂ {C = World} (λ (x : Session) (y : List ℕ). world x (w .tiles) y (w .journal)) is left ∙ sym (commit-form w o job)
+  after-commit operations is left = ap₂ {C = World} (λ (x : Session) (y : List ℕ). world x (w .tiles) y (w .journal)) is left ∙ sym (commit-form w o job)

@@ -3,13 +3,13 @@ use mathlib.Core.Bool.{Bool, cond, false, true}
 use mathlib.Core.List.{List, [], _∷_}
 use mathlib.Core.Logic.{_≢_}
 use mathlib.Core.Path.{_∙_, _≡_, ap, ap₂, refl, sym}
-use Prim.Native.Nat.{_*_, _+_, _/_, _<_, _≤_, suc, zero, ℕ}
+use Prim.Native.Nat.{_*_, _+_, _<_, _≤_, suc, zero, ℕ}
 use native.Mathlib.Omega.{arith}
 use lib.Dec.{eqb, ltb}
 use lib.ListN.{getD, length, set}
 use lib.Seq.{getD-set-same}
 use borrow.Author.Needs.{read-below}
-use borrow.Author.Tests.{eq-eqb, le-ltb, lt-ltb, ltb-false, ltb-true, ne-eqb}
+use borrow.Author.Tests.{eq-eqb, le-ltb, ltb-false, ltb-true, ne-eqb}
 use Rattle.lists.specs.Lists.{All}
 use Rattle.lists.specs.Truth.{Same, oneIf, other, same, same?}
 use Rattle.strict.specs.Laws.Members.{above-ascending}

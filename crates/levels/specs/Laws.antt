@@ -2,7 +2,7 @@
 use mathlib.Core.Bool.{Bool, _||_, false, true}
 use mathlib.Core.List.{List}
 use mathlib.Core.Path.{_∙_, _≡_, ap, refl, sym}
-use Prim.Native.Nat.{_+_, _-_, _<_, _≤_, ℕ}
+use Prim.Native.Nat.{_+_, _-_, _≤_, ℕ}
 use native.Mathlib.Omega.{arith}
 use lib.Dec.{eqb}
 use lib.ListN.{length}
@@ -17,7 +17,6 @@ use Rattle.service.specs.Laws.Counting.{level-cleared, level-few, level-put, le
 use Rattle.service.specs.Limits.{mostTiles}
 use Rattle.service.specs.Tile.{isKey}
 use Rattle.levels.specs.Tally.{Movable, lowered, raised, tallyAfter, tallyOf}
-use Rattle.levels.specs.declared.Tally.{Tally}
 
 module _ (k : ℕ) (valid : isKey k ≡ true) (t : List ℕ) (asc : Ascending t) where
   comes : member k t ≡ false → raised (tallyOf t) k ≡ tallyOf (insertTile k t)

@@ -17,6 +17,9 @@ use service::ZOOM_FACTOR;
 use strict::Procedure;
 use tiles::Spot;
 
+// The zoom after the lowest.
+const NEXT_ZOOM: u32 = 5;
+
 // How many tiles there are, and how many of each level.
 pub struct Tally {
     pub tiles: usize,
@@ -90,7 +93,7 @@ pub fn count_levels(tiles: &[u32], count: usize) -> [usize; 11]
     let mut below: usize = 0;
     let mut i: usize = 0;
     while i < LEVEL_COUNT {
-        let next = (i as u32 + 5) * ZOOM_FACTOR;
+        let next = (i as u32 + NEXT_ZOOM) * ZOOM_FACTOR;
         let end = search::position(tiles, count, next);
         levels[i] = end - below;
         below = end;
@@ -100,13 +103,13 @@ pub fn count_levels(tiles: &[u32], count: usize) -> [usize; 11]
 }
 
 // Whether the counts of each level are the same.
-pub fn same_levels(held: &[usize; 11], counted: &[usize; 11]) -> bool
-    requires { ⌜ (length (now held) ≡ 11) × (length (now counted) ≡ 11) ⌝ }
-    ensures { λ r. ⌜ r ≡ sameNumbers (now (held .entry)) (now (counted .entry)) ⌝ }
+pub fn same_levels(kept: &[usize; 11], counted: &[usize; 11]) -> bool
+    requires { ⌜ (length (now kept) ≡ 11) × (length (now counted) ≡ 11) ⌝ }
+    ensures { λ r. ⌜ r ≡ sameNumbers (now (kept .entry)) (now (counted .entry)) ⌝ }
 {
     let mut i: usize = 0;
     while i < LEVEL_COUNT {
-        if held[i] != counted[i] {
+        if kept[i] != counted[i] {
             return false;
         }
         i += 1;
@@ -115,7 +118,7 @@ pub fn same_levels(held: &[usize; 11], counted: &[usize; 11]) -> bool
 }
 
 // The tiles of a zoom, as the session has them to hand: 0 where it is none.
-pub fn level_count(session: Session, zoom: u8) -> usize
+pub fn tiles_of_zoom(session: Session, zoom: u8) -> usize
     ensures { λ r. ⌜ r ≡ countAt session zoom ⌝ }
 {
     if zoom < Level::LOWEST {

@@ -1,6 +1,5 @@
 // Starting a session, and one operation on it: each takes every input; its promise is one equation with service's specs/Calls.antt.
 ghost use mathlib.Core.Path.{_≡_};
-ghost use Rattle.strict.specs.declared.Rule.the-variants.{Alone};
 ghost use Rattle.service.specs.Calls.{emptySession, operationCall, startCall};
 ghost use Rattle.service.specs.World.{reported, world};
 use decisions::Decision;

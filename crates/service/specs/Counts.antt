@@ -32,8 +32,8 @@ module _ (w : World) (sound : soundB w ≡ true) where
   spoken-fresh = tables .spoken-counted
 
   -- so that the places that are taken, by which 7 is judged, are to hand
-  pub taken-held : w .session .tiles + w .session .spoken ≡ placesTaken (w .session .rule) (state w .book)
-  taken-held = ap₂ (λ m n. m + n) (sym (length-take-le (w .session .tiles) (w .tiles) (tables .tiles-fit))) spoken-fresh
+  pub taken-kept : w .session .tiles + w .session .spoken ≡ placesTaken (w .session .rule) (state w .book)
+  taken-kept = ap₂ (λ m n. m + n) (sym (length-take-le (w .session .tiles) (w .tiles) (tables .tiles-fit))) spoken-fresh
 
 -- a refused start, which leaves the empty session, counts nothing
 pub empty-counts : ((zoom : ℕ) → countAt emptySession zoom ≡ 0) × (emptySession .spoken ≡ 0)

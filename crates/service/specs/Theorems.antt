@@ -17,10 +17,10 @@ use Rattle.strict.specs.Histories.{Event}
 use Rattle.strict.specs.Operations.{begun}
 use Rattle.strict.specs.Tiles.{member}
 use Rattle.strict.specs.declared.Procedure.{Procedure}
-use Rattle.strict.specs.declared.Rule.the-variants.{Alone, Together}
+use Rattle.strict.specs.declared.Rule.the-variants.{Together}
 use Rattle.strict.specs.declared.Rule.{Rule}
 use Rattle.service.specs.Admission.{State, answerTo, isOpen}
-use Rattle.service.specs.Calls.{abortCall, carried, commitCall, concluded, emptySession, fresh, openCall, operationCall, ruledWorld, startCall, startWorld}
+use Rattle.service.specs.Calls.{abortCall, carried, commitCall, concluded, emptySession, openCall, operationCall, ruledWorld, startCall, startWorld}
 use Rattle.service.specs.Claims.{ChangedByOther, Keeps, Missing, Named, NoRoomByJob, OfEdition, Placeless, Serves, Tells, WantsOpen, holderIn, openBytes, operationBytes, refusing}
 use Rattle.service.specs.Entry.{opIn}
 use Rattle.service.specs.Extents.{recordSize}
@@ -101,7 +101,7 @@ module _ (w : World) (job sheet : ℕ) (p : Procedure) (a : Address) (k : ℕ) (
       ↔ FirstHolder (w .session .rule) (begun job p k (usedTiles w)) (map opIn (usedOperations w)) holder
   held-names-first holder = held-names w job sheet p a k v has-key holder
 
-  -- 7 just where no entry holds it, it needs a tile place, and all are spoken for
+  -- 7 just where no entry holds it, it needs a tile place, and all are taken
   pub seven-exact : (operationCall w job sheet p a .told .number ≡ 7) ↔ ((holderIn w job p k ≡ none) × Placeless w job p k)
   seven-exact = told-seven w job sheet p a k v has-key
 

@@ -1,23 +1,21 @@
 -- The tests as the code asks them, each by one function, and what the first of them say for the later ones
 use mathlib.Core.Bool.{Bool, _&&_, and-assoc, and-true, false, true}
-use mathlib.Core.List.{List, [], _∷_, map}
+use mathlib.Core.List.{List, [], _∷_}
 use mathlib.Core.Path.{_∙_, _≡_, ap, refl, sym}
 use Prim.Native.Nat.{_+_, _-_, _≤_, suc, zero, ℕ}
 use native.Mathlib.Omega.{arith}
 use lib.Dec.{leb, leb·zero}
 use lib.ListN.{drop, getD, length, length-replicate, length-take, replicate, take}
-use lib.Seq.{length-take-le}
 use borrow.Author.Tests.{eq-eqb, le-leb, leb-true}
 use Rattle.lists.specs.Lists.{All, all-is, allTrue, same-numbers}
 use Rattle.lists.specs.Truth.{both}
 use Rattle.scans.specs.Tests.{allEntries, fails, sortedKeys}
 use Rattle.service.specs.Calls.{fresh, startWorld}
-use Rattle.service.specs.Entry.{opIn}
 use Rattle.service.specs.Laws.Soundness.{ascending-is, every-is, zeros-is}
 use Rattle.service.specs.Levels.{levelsOf}
 use Rattle.service.specs.Sound.{every, journalTests, settledB, soundB, tabledB, zeros}
 use Rattle.service.specs.Tile.{isKey}
-use Rattle.service.specs.World.{state, world}
+use Rattle.service.specs.World.{world}
 use Rattle.service.specs.declared.Session.{Session}
 use Rattle.strict.specs.Book.{spokenBy}
 use Rattle.strict.specs.Laws.Room.{nothing-spoken}

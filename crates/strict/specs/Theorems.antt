@@ -80,7 +80,7 @@ module _ (r : Rule) (s : List ℕ) (h : Log Event) (ascending : Ascending s) (ad
   pub sweep-leaves-committed : LeftCommitted (bookAfter s (sweep 64 h)) s (kept s h)
   sweep-leaves-committed = sweep-leaves r s h ascending admitted
 
-  -- whatever groups are dropped, the tiles left are no more than the places spoken for
+  -- whatever groups are dropped, the tiles left are no more than the places taken
   pub room-is-enough : (d : ℕ → Bool) → length (run s (without (inGroups r d) (kept s h))) ≤ placesTaken r (bookAfter s h)
   room-is-enough d = room-enough r s h ascending admitted d
 
@@ -94,6 +94,6 @@ module _ (s : List ℕ) (h : Log Event) (ascending : Ascending s) (admitted : Ad
       → (heldBy Alone (bookAfter s h) j p k ≡ none) ↔ Strict Alone s (kept s (h ▷ operation j sheet p k))
   held-is-exact j sheet p k is-open = held-exactly s h j sheet p k ascending admitted is-open
 
-  -- some choice of the kept operations leaves more than N tiles just where more than N places are spoken for
+  -- some choice of the kept operations leaves more than N tiles just where more than N places are taken
   pub room-is-exact : (N : ℕ) → ((chosen : Log Op) × Choice (kept s h) chosen × (N < length (run s chosen))) ↔ (N < placesTaken Alone (bookAfter s h))
   room-is-exact N = room-exactly s h ascending admitted N

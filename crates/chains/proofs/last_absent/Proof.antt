@@ -1,5 +1,5 @@
 -- `chains::last_absent` meets its contract: its tests are those of the definition
-use mathlib.Core.Bool.{Bool, false, true}
+use mathlib.Core.Bool.{Bool}
 use mathlib.Core.Path.{_∙_, _≡_, ap, sym}
 use native.Mathlib.Omega.{arith}
 use lib.ListN.{take}

@@ -1,7 +1,7 @@
 -- `engine::abort_job` meets its contract: the recoveries, newest first, and then what a commit does
 use mathlib.Core.Bool.{Bool, true}
 use mathlib.Core.List.{List, [], _∷_}
-use mathlib.Core.Path.{_∙_, _≡_, ap, subst, sym}
+use mathlib.Core.Path.{_∙_, _≡_, ap}
 use Prim.Native.Nat.{ℕ}
 use lib.ListN.{length, take}
 use borrow.Author.Needs.{needs}

@@ -1,7 +1,5 @@
 -- `engine::affect` meets its contract: each procedure is what its effect says
-use mathlib.Core.Path.{sym}
 use borrow.Author.Needs.{needs}
-use Rattle.search.specs.Laws.{used-length}
 use Rattle.engine.proofs.Laws.{place-for}
 use Rattle.engine.proofs.affect.Statement.{statement}
 use Rattle.engine.proofs.affect.Tie as tie
@@ -27,16 +25,16 @@ same-length : tie.Need-same-length
 same-length c = search needs
 
 returns : tie.Need-returns
-returns c = rw (c .before .before .before .before .enum-told .given .1) (c .before .before .put .ensures)
+returns c = rw (c .before .before .before .before .enum-told .given .1) (c .before .before .put .ensures .1)
 
 same-length-2 : tie.Need-same-length-2
 same-length-2 c = search needs
 
 returns-2 : tie.Need-returns-2
-returns-2 c = rw (c .before .before .before .before .enum-told2 .given .1) (c .before .before .clear .ensures)
+returns-2 c = rw (c .before .before .before .before .enum-told2 .given .1) (c .before .before .clear .ensures .1)
 
 returns-3 : tie.Need-returns-3
-returns-3 c = rw (c .enum-told3 .given .1) (sym (used-length (c .before .before .before .pre .0)), c .before .before .before .pre .0 .zeros-behind)
+returns-3 c = rw (c .enum-told3 .given .1) (c .before .before .before .pre .0 .zeros-behind)
 
 pub affect-spec : {M : Type 1} → statement M
 affect-spec =

@@ -1,7 +1,5 @@
 -- `engine::affect_counting` meets its contract: the tiles, and their count
 use mathlib.Core.Path.{_∙_, ap, subst, sym}
-use lib.ListN.{take}
-use denote.Ref.{now}
 use Rattle.levels.specs.Tally.{Movable, tallyAfter}
 use Rattle.tiles.specs.declared.Spot.{Spot}
 use Rattle.engine.proofs.Laws.{may-move, moves}
@@ -25,7 +23,7 @@ returns c =
     let s = c .before .before .before .before .before .before in (
       c .after .ensures ∙ ap (λ b. tallyAfter (s .args .tally) (s .args .procedure) (s .args .spot .key) b) (ap (λ (x : Spot). x .there) (s .pre .1))
           ∙ moves (s .pre .0) (s .args .spot .key) (s .pre .2) (s .args .procedure),
-      c .before .before .before .affect .ensures .1,
+      c .before .before .before .affect .ensures,
     )
 
 pub affect-counting-spec : {M : Type 1} → statement M

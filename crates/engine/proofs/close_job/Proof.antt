@@ -10,7 +10,7 @@ use Rattle.service.specs.World.{World, world}
 use Rattle.engine.proofs.close_job.Statement.{statement}
 use Rattle.engine.proofs.close_job.Tie as tie
 use Rattle.engine.specs.Events.{closed}
-use Rattle.engine.specs.Forms.{committed}
+use Rattle.engine.specs.Forms.{after-commit}
 
 -- what the function was given
 abbrev given : tie.Start → World
@@ -30,7 +30,7 @@ returns c =
     let s = c .before .before .before .before .before .before .before .before in
     let a = s .args in
     let cleared = c .before .before .clear-job .ensures in
-    committed (given s) (s .pre .tabled) (a .job) _ _
+    after-commit (given s) (s .pre .tabled) (a .job) _ _
     (cleared .0 ∙ ap (closed (a .session) (a .job) (length (withoutJob (a .job) (take (a .session .operations) (now (a .operations)))))) (c .before .before .before .before .spoken-without .ensures))
     (cleared .1)
 

@@ -73,7 +73,7 @@ returns-3 : tie.Need-returns-3
 returns-3 c =
     let start = c .before .before .before .before .before in
     rw (recovered-other _ _ (λ e. c .before .if1 .left (sym (kind-is (c .before .before)) ∙ e)) (λ e. c .if2 .left (sym (kind-is (c .before .before)) ∙ e)))
-    (start .pre .0 .counted, start .pre .0 .table .zeros-behind)
+    (start .pre .0 .right, start .pre .0 .table .zeros-behind)
 
 pub recover-spec : {M : Type 1} → statement M
 recover-spec =

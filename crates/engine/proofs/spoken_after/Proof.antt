@@ -1,6 +1,9 @@
 -- `engine::spoken_after` meets its contract: by the kind, and by whether a place is needed
-use mathlib.Core.Path.{_∙_, sym}
-use native.Mathlib.Omega.{arith}
+use mathlib.Core.Bool.{Bool, cond, false, not, true}
+use mathlib.Core.Path.{_∙_, _≡_, refl, sym}
+use Prim.Native.Nat.{_-_}
+use denote.Ref.{now}
+use Rattle.engine.specs.Counting.{wants}
 use borrow.Author.Tests.{eq-eqb, ne-eqb}
 use borrow.Author.Needs.{needs}
 use Rattle.engine.proofs.spoken_after.Statement.{statement}
@@ -15,19 +18,38 @@ returns c = rw (eq-eqb _ _ (c .if1 .taken))
 returns-2 : tie.Need-returns-2
 returns-2 c = rw (ne-eqb _ _ (c .before .if1 .left), ne-eqb _ _ (c .if2 .taken))
 
+-- nothing less one is nothing
+nothing : (b : Bool) → 0 ≡ cond b (0 - 1) 0
+nothing true = refl
+nothing false = refl
+
+returns-3 : tie.Need-returns-3
+returns-3 c =
+    let a = c .before .before .before .before .args in
+    rw (ne-eqb _ _ (c .before .before .if1 .left), eq-eqb _ _ (c .before .if2 .left), c .if3 .taken)
+    (nothing (not (wants (a .session) (now (a .operations)) (a .kind) (a .key))))
+
 needs-place-requires : tie.Need-needs-place-requires
 needs-place-requires c κs = search needs
 
-returns-3 : tie.Need-returns-3
-returns-3 c = rw (ne-eqb _ _ (c .before .before .before .if1 .left), eq-eqb _ _ (c .before .before .if2 .left), sym (c .before .needs-place .ensures) ∙ c .if3 .taken)
+returns-4 : tie.Need-returns-4
+returns-4 c = rw (ne-eqb _ _ (c .before .before .before .before .if1 .left), eq-eqb _ _ (c .before .before .before .if2 .left), sym (c .before .needs-place .ensures) ∙ c .if4 .taken)
 
 sub-result : tie.Need-sub-result
-sub-result c = c .before .before .before .before .before .pre .some (c .before .before .if2 .left) (sym (c .before .needs-place .ensures) ∙ c .if3 .left)
+sub-result c = c .before .before .before .before .before .before .pre .some (c .before .before .before .if2 .left) (sym (c .before .needs-place .ensures) ∙ c .if4 .left)
 
-returns-4 : tie.Need-returns-4
-returns-4 c = rw (ne-eqb _ _ (c .before .before .before .if1 .left), eq-eqb _ _ (c .before .before .if2 .left), sym (c .before .needs-place .ensures) ∙ c .if3 .left)
+returns-5 : tie.Need-returns-5
+returns-5 c = rw (ne-eqb _ _ (c .before .before .before .before .if1 .left), eq-eqb _ _ (c .before .before .before .if2 .left), sym (c .before .needs-place .ensures) ∙ c .if4 .left)
 
 pub spoken-after-spec : {M : Type 1} → statement M
 spoken-after-spec =
     tie.close
-    (tie.spec add-result returns returns-2 needs-place-requires returns-3 sub-result returns-4)
+    (tie.spec
+    add-result
+    returns
+    returns-2
+    returns-3
+    needs-place-requires
+    returns-4
+    sub-result
+    returns-5)

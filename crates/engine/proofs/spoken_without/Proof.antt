@@ -2,7 +2,6 @@
 use mathlib.Core.List.{[]}
 use Prim.Native.Nat.{_≤_}
 use native.Mathlib.Omega.{arith}
-use borrow.Author.Needs.{needs}
 use denote.Ref.{now}
 use Rattle.admission.specs.Laws.{tile-table}
 use Rattle.service.specs.World.{World, world}

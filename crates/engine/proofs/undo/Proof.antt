@@ -45,7 +45,7 @@ loop-holds : tie.Need-loop-holds Inv-loop μ-loop
 loop-holds c =
     let a = c .before .before .args in
     let p = c .before .before .pre in
-    begins _ _ (take (a .used) (now (a .operations))) (a .job) (p .0 .table) (p .0 .few) (p .3) (a .tally) (p .0 .counted) (a .used) (length-take-le (a .used) (now (a .operations)) (p .1))
+    begins _ _ (take (a .used) (now (a .operations))) (a .job) (p .0 .table) (p .0 .few) (p .3) (a .tally) (p .0 .right) (a .used) (length-take-le (a .used) (now (a .operations)) (p .1))
 
 sub-i : tie.Need-sub-i Inv-loop μ-loop
 sub-i c = omega arith

@@ -1,10 +1,8 @@
 -- `levels::count_levels` meets its contract: the counts before i are in their places
-use mathlib.Core.List.{List}
 use mathlib.Core.Path.{_∙_, _≡_, ap, sym}
 use Prim.Native.Nat.{_*_, _+_, _-_, _<_, _≤_, ℕ}
 use native.Mathlib.Omega.{arith}
-use lib.ListN.{getD, length, length-replicate, length-set, set, take}
-use borrow.Author.Needs.{needs}
+use lib.ListN.{getD, length, length-replicate, length-set, take}
 use denote.Ref.{now}
 use Rattle.service.specs.Levels.{levelsOf, tilesAt}
 use Rattle.service.specs.Limits.{zoomFactor}

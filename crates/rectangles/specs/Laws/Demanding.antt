@@ -100,7 +100,7 @@ module _ {tiles : List ℕ} {count : ℕ} {lent journal : List ℕ} {cs : Log Ca
       let six = told-six w job sheet change r in
       (λ e strict. six .0 e .2 (free-iff .1 strict), λ f. six .1 (ready, shaped, λ e. f (free-iff .0 e)))
 
-  -- some choice leaves more than N tiles just where more than N places are spoken for
+  -- some choice leaves more than N tiles just where more than N places are taken
   room-iff : Strict Alone s added
       → ((chosen : Log Op) × Choice added chosen × (N < length (run s chosen))) ↔ (N < placesTaken (w .session .rule) (state w .book) + needed (w .session .rule) (state w .book) job p ks)
   room-iff strict =

@@ -94,7 +94,7 @@ module _ (s : List ℕ) (job sheet : ℕ) (p : Procedure) where
         let free = held-is-exact s h asc a job sheet p k o .1 (strict-first (h ▷ operation job sheet p k) ks strict) in
         (free, free-before Alone (bookAfter s h) job sheet p k ks (apart .0) (all-unheld (h ▷ operation job sheet p k) ks (a, o, free) o (apart .1) strict))
 
-    -- and then so many more places are spoken for
+    -- and then so many more places are taken
     pub taken-all : (h : Log Event) (ks : List ℕ) → Apart ks → Ascending (bookAfter s h .tiles)
         → placesTaken Alone (bookAfter s (withAll h job sheet p ks)) ≡ placesTaken Alone (bookAfter s h) + needed Alone (bookAfter s h) job p ks
     taken-all h [] apart up = omega arith

@@ -22,7 +22,7 @@ use Rattle.rectangles.specs.Claims.{Apart, bytesRunOut, placesRunOut, sl
 use Rattle.rectangles.specs.Laws.Apart.{needed-same}
 use Rattle.rectangles.specs.Rectangles.{needed}
 
--- one turn: a tile that needs a place or not, where n of the places are spoken for, and `rest` tells of the later ones
+-- one turn: a tile that needs a place or not, where n of the places are taken, and `rest` tells of the later ones
 places-turn : (b : Bool) (n places more : ℕ) (rest : Bool) → n ≤ places → (n + oneIf b ≤ places → rest ≡ ltb places (n + (oneIf b + more)))
     → (b && eqb n places) || rest ≡ ltb places (n + (oneIf b + more))
 places-turn b n places more rest l ih = go (b && eqb n places) refl

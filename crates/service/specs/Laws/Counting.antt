@@ -144,14 +144,14 @@ module _ (k : ℕ) (valid : isKey k ≡ true) (t : List ℕ) where
   unfolding levelsOf
   count-there = level-at lowestZoom levelCount (levelPlace k) t place-small ∙ ap (λ z. tilesAt z t) at-place
 
-  elsewhere : (z : ℕ) → z ≢ lowestZoom + levelPlace k → eqb (zoomIn k) z ≡ false
-  elsewhere z d = ne-eqb (zoomIn k) z (λ p. d (sym (at-place ∙ p)))
+  other-level : (z : ℕ) → z ≢ lowestZoom + levelPlace k → eqb (zoomIn k) z ≡ false
+  other-level z d = ne-eqb (zoomIn k) z (λ p. d (sym (at-place ∙ p)))
 
   moved : (u : List ℕ) → ((z : ℕ) → eqb (zoomIn k) z ≡ false → tilesAt z u ≡ tilesAt z t)
       → levelsOf u ≡ set (levelsOf t) (levelPlace k) (tilesAt (zoomIn k) u)
   unfolding levelsOf
   moved u f =
-      levels-moved lowestZoom levelCount (levelPlace k) t u place-small (λ z d. f z (elsewhere z d))
+      levels-moved lowestZoom levelCount (levelPlace k) t u place-small (λ z d. f z (other-level z d))
       ∙ ap (λ z. set (levelsFrom lowestZoom levelCount t) (levelPlace k) (tilesAt z u)) at-place
 
   module _ (asc : Ascending t) where

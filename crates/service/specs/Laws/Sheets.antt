@@ -10,18 +10,17 @@ use lib.Dec.{eqb, ltb}
 use lib.ListN.{getD, length, length-map, take}
 use lib.Seq.{length-sets, length-take-le}
 use Rattle.lists.specs.Lists.{All}
-use Rattle.strict.specs.Book.{Book, heldBy, needsPlace, placesTaken}
+use Rattle.strict.specs.Book.{heldBy, needsPlace, placesTaken}
 use Rattle.strict.specs.Commutativity.{Signature}
 use Rattle.strict.specs.Histories.{Event, abort, commit, openJob, operation}
 use Rattle.strict.specs.Laws.Sheets.{held-sheetless, needs-sheetless, taken-sheetless, step-sheetless}
-use Rattle.strict.specs.Operations.{Op, begun}
+use Rattle.strict.specs.Operations.{begun}
 use Rattle.strict.specs.Sheets.{sheetless, sheetlessBook, sheetlessBy, sheetlessEvent, sheetlessHistory}
 use Rattle.strict.specs.Strict.{Log, _▷_, empty}
 use Rattle.strict.specs.declared.Procedure.{Procedure}
-use Rattle.strict.specs.declared.Rule.the-variants.{Alone}
 use Rattle.strict.specs.declared.Rule.{Rule}
 use Rattle.service.specs.Admission.{State, answerTo, openMarks, perform}
-use Rattle.service.specs.Calls.{concluded, emptySession, fresh, ruledWorld, startCall, startRefusals}
+use Rattle.service.specs.Calls.{concluded, emptySession, ruledWorld, startCall, startRefusals}
 use Rattle.service.specs.Claims.{holderIn, sheetlessTold}
 use Rattle.service.specs.Extents.{extent, recordSize}
 use Rattle.service.specs.Journal.{encode, recordOf, ruleBytes}

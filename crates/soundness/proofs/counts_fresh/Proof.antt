@@ -1,6 +1,6 @@
 -- `soundness::counts_fresh` meets its contract: its tests are those of the definition
-use mathlib.Core.Bool.{Bool, and-true}
-use mathlib.Core.List.{List, []}
+use mathlib.Core.Bool.{and-true}
+use mathlib.Core.List.{[]}
 use mathlib.Core.Path.{_∙_, _≡_, ap, sym}
 use Prim.Native.Nat.{_+_, _<_, _≤_}
 use native.Mathlib.Omega.{arith}

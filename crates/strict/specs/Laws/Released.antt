@@ -1,7 +1,6 @@
 -- The places that unfinished deletes speak for, as an operation and the end of a job move them
 use mathlib.Core.Bool.{Bool, _&&_, _||_, and-false, cond, false, not, true}
-use mathlib.Core.List.{List, [], _++_, _∷_}
-use mathlib.Core.Logic.{_≢_}
+use mathlib.Core.List.{List, [], _∷_}
 use mathlib.Core.Path.{_∙_, _≡_, ap, ap₂, refl, sym}
 use Prim.Native.Nat.{_+_, ℕ}
 use native.Mathlib.Omega.{arith}

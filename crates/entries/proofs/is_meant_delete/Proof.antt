@@ -1,12 +1,12 @@
--- `entries::is_delete_of` meets its contract: its tests are those of the definition
+-- `entries::is_meant_delete` meets its contract: its tests are those of the definition
 use mathlib.Core.Bool.{and-false, and-true}
 use mathlib.Core.Path.{_∙_, sym}
 use borrow.Author.Needs.{needs}
 use borrow.Author.Tests.{eq-eqb, ne-eqb}
 use Rattle.service.specs.Entry.{opIn}
 use Rattle.layout.specs.Whose.{meant}
-use Rattle.entries.proofs.is_delete_of.Statement.{statement}
-use Rattle.entries.proofs.is_delete_of.Tie as tie
+use Rattle.entries.proofs.is_meant_delete.Statement.{statement}
+use Rattle.entries.proofs.is_meant_delete.Tie as tie
 
 kind-in-requires : tie.Need-kind-in-requires
 kind-in-requires c κs = search needs
@@ -20,5 +20,5 @@ is-meant-requires c κs = search needs
 returns-2 : tie.Need-returns-2
 returns-2 c = rw (eq-eqb _ 3 (sym (c .before .before .kind-in .ensures) ∙ c .before .if1 .left)) (c .is-meant .ensures ∙ sym (and-true (meant (c .before .before .before .args .whose) (opIn (c .before .before .before .args .e)))))
 
-pub is-delete-of-spec : {M : Type 1} → statement M
-is-delete-of-spec = tie.close (tie.spec kind-in-requires returns is-meant-requires returns-2)
+pub is-meant-delete-spec : {M : Type 1} → statement M
+is-meant-delete-spec = tie.close (tie.spec kind-in-requires returns is-meant-requires returns-2)
