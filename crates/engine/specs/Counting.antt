@@ -10,8 +10,7 @@ use Rattle.strict.specs.declared.Procedure.{Procedure}
 use Rattle.service.specs.Entry.{opIn}
 use Rattle.service.specs.Limits.{mostOperations, mostTiles}
 use Rattle.service.specs.declared.Session.{Session}
-use Rattle.search.specs.Table.{TileTable}
-use Rattle.levels.specs.Tally.{Movable, tallyAfter, tallyOf}
+use Rattle.levels.specs.Tally.{Movable, tallyAfter}
 use Rattle.levels.specs.declared.Tally.{Tally}
 use Rattle.rules.specs.Rules.{wantsPlace}
 
@@ -22,12 +21,6 @@ tallyIn s = record { tiles = s .tiles; levels = s .levels }
 abbrev pub withTally : Session → Tally → Session
 withTally s c =
     record { rule = s .rule; marks = s .marks; tiles = c .tiles; operations = s .operations; journal = s .journal; levels = c .levels; spoken = s .spoken }
-
--- a tile table, with a count of its tiles that is right
-pub record Tallied (tiles : List ℕ) (c : Tally) : Type 0 where
-  pub table : TileTable tiles (c .tiles)
-  pub right : c ≡ tallyOf (take (c .tiles) tiles)
-  pub few : length tiles ≤ mostTiles
 
 -- the places spoken for after an operation of kind n, that needs a place or not
 abbrev pub spokenAfter : ℕ → Bool → ℕ → ℕ

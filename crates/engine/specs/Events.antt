@@ -1,4 +1,4 @@
--- An event that may happen on these tables, and the session after a job has opened or ended, or the rule was named
+-- An event that may happen on these tables, and the session after a job has opened, or the rule was named
 use mathlib.Core.Bool.{false, true}
 use mathlib.Core.Path.{_≡_}
 use Prim.Native.Nat.{ℕ}
@@ -21,11 +21,6 @@ pub record Ready (w : World) (e : Event) : Type 0 where
 abbrev pub markedOpen : Session → ℕ → Session
 markedOpen s job =
     record { rule = s .rule; marks = set (s .marks) job true; tiles = s .tiles; operations = s .operations; journal = s .journal; levels = s .levels; spoken = s .spoken }
-
--- the job is closed, with so many operations left, which speak for so many places
-abbrev pub closed : Session → ℕ → ℕ → ℕ → Session
-closed s job operations spoken =
-    record { rule = s .rule; marks = set (s .marks) job false; tiles = s .tiles; operations = operations; journal = s .journal; levels = s .levels; spoken = spoken }
 
 -- from here on a job fails as one
 abbrev pub governed : Session → Session

@@ -1,71 +1,46 @@
--- What an event leaves in the tables of a sound world, in the numbers that the code moves
+-- What an operation or an open leaves in the tables of a sound world, in the numbers that the code moves
 use mathlib.Core.Bool.{Bool, _&&_, cond, false, not, true}
 use mathlib.Core.List.{List, [], _++_, _∷_, map}
-use mathlib.Core.Path.{_∙_, _≡_, ap, ap₂, refl, subst, sym}
+use mathlib.Core.Path.{_∙_, _≡_, ap, refl, subst, sym}
 use Prim.Native.Nat.{_+_, _-_, _<_, _≤_, ℕ}
 use native.Mathlib.Omega.{arith}
 use lib.Dec.{eqb}
-use lib.ListN.{length, length-append, length-map, set}
+use lib.ListN.{length, length-append, set}
 use borrow.Author.Tests.{eq-eqb, eqb-false, eqb-true, ne-eqb}
-use Rattle.lists.specs.Lists.{All, padded}
-use Rattle.lists.specs.Truth.{by-cond, never, oneIf}
-use Rattle.strict.specs.Book.{others, recover, spokenBy, spokenOf}
-use Rattle.strict.specs.Histories.{Event, abort, commit, mine, openJob, operation}
-use Rattle.strict.specs.Laws.Released.{spoken-abort, spoken-commit, spoken-either, spoken-operation}
-use Rattle.strict.specs.Operations.{Op, apply, begun, clear, effect, kind, ofSheet, put, skip, undo}
+use Rattle.lists.specs.Lists.{padded}
+use Rattle.lists.specs.Truth.{never, oneIf}
+use Rattle.strict.specs.Book.{spokenBy}
+use Rattle.strict.specs.Histories.{Event, openJob, operation}
+use Rattle.strict.specs.Laws.Released.{spoken-either, spoken-operation}
+use Rattle.strict.specs.Operations.{Op, apply, begun, effect, kind, ofSheet}
 use Rattle.strict.specs.Sound.{SoundTable}
-use Rattle.strict.specs.Tiles.{delete, insertTile, member}
+use Rattle.strict.specs.Tiles.{member}
 use Rattle.strict.specs.declared.Procedure.{Procedure}
 use Rattle.strict.specs.declared.Rule.the-variants.{Together}
 use Rattle.strict.specs.declared.Rule.{Rule}
 use Rattle.service.specs.Admission.{perform}
 use Rattle.service.specs.Calls.{sessionOf, withState}
-use Rattle.service.specs.Entry.{entryOf, jobIn, keyIn, kindIn, opIn, packEntry}
+use Rattle.service.specs.Entry.{entryOf, opIn, packEntry}
 use Rattle.service.specs.Laws.Entries.{entries-back, settled-sound}
 use Rattle.service.specs.Laws.Standing.{Stands, stands-perform}
 use Rattle.service.specs.Laws.Storing.{tabled-stands}
-use Rattle.service.specs.Levels.{levelsOf}
 use Rattle.service.specs.Replay.{ruled}
-use Rattle.service.specs.Sound.{Entry, Tabled}
+use Rattle.service.specs.Sound.{Tabled}
 use Rattle.service.specs.Tile.{isKey}
 use Rattle.service.specs.World.{World, state, usedOperations, usedTiles, world}
 use Rattle.service.specs.declared.Session.{Session}
 use Rattle.levels.specs.Laws.{movable, tally-kept}
 use Rattle.levels.specs.Tally.{Movable, tallyAfter, tallyOf}
 use Rattle.levels.specs.declared.Tally.{Tally}
-use Rattle.entries.specs.Laws.{decoded, others-without, padded-more}
-use Rattle.entries.specs.Table.{withoutJob}
+use Rattle.entries.specs.Laws.{padded-more}
 use Rattle.rules.specs.Laws.{other-kind, place-wanted}
 use Rattle.admission.specs.Laws.{entry-table, operations-count, tile-table, tiles-count}
-use Rattle.engine.specs.Counting.{Enters, entered, spokenAfter, tallyIn, wants, withTally}
-use Rattle.engine.specs.Events.{Ready, closed, governed, markedOpen}
-use Rattle.engine.specs.Undoing.{recovered, recoveredJob}
-
--- ENTRIES
-entries-without : (marks : List Bool) (job : ℕ) (es : List ℕ) → All (Entry marks) es → All (Entry marks) (withoutJob job es)
-entries-without marks job [] h = tt
-entries-without marks job (e ∷ es) h =
-    let ih = entries-without marks job es (h .1) in
-    by-cond (All (Entry marks)) (eqb job (jobIn e)) (λ _. ih) (λ _. (h .0, ih))
+use Rattle.engine.specs.Counting.{Enters, entered, spokenAfter, tallyIn, wants}
+use Rattle.engine.specs.Events.{Ready, governed, markedOpen}
 
 entries-more : (us : List Op) (u : Op) → map entryOf (us ++ (u ∷ [])) ≡ map entryOf us ++ (entryOf u ∷ [])
 entries-more [] u = refl
 entries-more (x ∷ us) u = ap {B = List ℕ} (λ l. entryOf x ∷ l) (entries-more us u)
-
--- RECOVERIES
-undo-entry : (e : ℕ) (t : List ℕ) → undo (opIn e) t ≡ recovered e t
-undo-entry e t = rw (decoded (kindIn e) .recovers) (go (eqb (kindIn e) 1) (eqb (kindIn e) 3))
-  where
-    go : (a b : Bool) → apply (cond a clear (cond b put skip)) (keyIn e) t ≡ cond a (delete (keyIn e) t) (cond b (insertTile (keyIn e) t) t)
-    go true b = refl
-    go false true = refl
-    go false false = refl
-
-pub recover-entries : (job : ℕ) (es t : List ℕ) → recover job (map opIn es) t ≡ recoveredJob job es t
-recover-entries job [] t = refl
-recover-entries job (e ∷ es) t =
-    ap (λ x. cond (eqb job (jobIn e)) (undo (opIn e) x) x) (recover-entries job es t)
-    ∙ ap (λ x. cond (eqb job (jobIn e)) x (recoveredJob job es t)) (undo-entry e (recoveredJob job es t))
 
 -- what a session counts of the tiles is what a fresh count gives
 pub tally-there : (w : World) → Tabled w → tallyOf (usedTiles w) ≡ tallyIn (w .session)
@@ -73,14 +48,14 @@ tally-there w o i = record { tiles = tiles-count w o i; levels = sym (o .levels-
 
 -- THE FORMS
 module _ (w : World) (o : Tabled w) where
-  same-tiles : padded (length (w .tiles)) (usedTiles w) ≡ w .tiles
+  pub same-tiles : padded (length (w .tiles)) (usedTiles w) ≡ w .tiles
   same-tiles = sym (tile-table w o .zeros-behind)
 
   same-operations : padded (length (w .operations)) (map entryOf (map opIn (usedOperations w))) ≡ w .operations
   same-operations = ap (padded (length (w .operations))) (entries-back (w .session .marks) (usedOperations w) (o .entries)) ∙ sym (entry-table w o .zeros-behind)
 
   -- the table as the book has it, and what it speaks for
-  sound-book : SoundTable (w .session .rule) (usedTiles w) (map opIn (usedOperations w))
+  pub sound-book : SoundTable (w .session .rule) (usedTiles w) (map opIn (usedOperations w))
   sound-book = settled-sound (w .session .rule) (w .session .marks) (usedTiles w) (usedOperations w) (o .entries) (o .settled)
 
   -- the session, with other marks or another rule that speaks for as much
@@ -113,65 +88,6 @@ module _ (w : World) (o : Tabled w) where
   rule-form i =
       let s = spoken-either (w .session .rule) (usedTiles w) (map opIn (usedOperations w)) sound-book ∙ sym (o .spoken-counted) in
       world (same-session Together (w .session .marks) s i) (same-tiles i) (same-operations i) (w .journal)
-
-  module _ (job : ℕ) where
-    abbrev left : List ℕ
-    left = withoutJob job (usedOperations w)
-
-    others-left : map entryOf (others job (map opIn (usedOperations w))) ≡ left
-    others-left =
-        ap (map entryOf) (sym (others-without job (usedOperations w)))
-        ∙ entries-back (w .session .marks) left (entries-without (w .session .marks) job (usedOperations w) (o .entries))
-
-    others-count : length (others job (map opIn (usedOperations w))) ≡ length left
-    others-count = ap length (sym (others-without job (usedOperations w))) ∙ length-map left opIn
-
-    -- what is spoken for without the job
-    abbrev spokenLeft : ℕ
-    spokenLeft = spokenBy (w .session .rule) (usedTiles w) (others job (map opIn (usedOperations w)))
-
-    pub spoken-left : spokenLeft + spokenOf (w .session .rule) (mine job) (usedTiles w) (map opIn (usedOperations w)) ≡ w .session .spoken
-    spoken-left = spoken-commit (w .session .rule) job (usedTiles w) (map opIn (usedOperations w)) sound-book ∙ sym (o .spoken-counted)
-
-    pub commit-form : withState w (perform (state w) (commit job)) ≡ world (closed (w .session) job (length left) spokenLeft) (w .tiles) (padded (length (w .operations)) left) (w .journal)
-    commit-form i =
-        world
-        (record {
-          rule = w .session .rule;
-          marks = set (w .session .marks) job false;
-          tiles = tiles-count w o i;
-          operations = others-count i;
-          journal = w .session .journal;
-          levels = sym (o .levels-counted) i;
-          spoken = spokenLeft;
-        })
-        (same-tiles i) (padded (length (w .operations)) (others-left i)) (w .journal)
-
-    abbrev undoneTiles : List ℕ
-    undoneTiles = recoveredJob job (usedOperations w) (usedTiles w)
-
-    -- the recoveries leave it so
-    spoken-undone : spokenBy (w .session .rule) (recover job (map opIn (usedOperations w)) (usedTiles w)) (others job (map opIn (usedOperations w))) ≡ spokenLeft
-    spoken-undone =
-        let a = spoken-abort (w .session .rule) job (usedTiles w) (map opIn (usedOperations w)) sound-book in
-        let b = spoken-commit (w .session .rule) job (usedTiles w) (map opIn (usedOperations w)) sound-book in
-        omega arith
-
-    pub abort-form : withState w (perform (state w) (abort job))
-        ≡ world (withTally (closed (w .session) job (length left) spokenLeft) (tallyOf undoneTiles)) (padded (length (w .tiles)) undoneTiles) (padded (length (w .operations)) left) (w .journal)
-    abort-form i =
-        let t = recover-entries job (usedOperations w) (usedTiles w) i in
-        world
-        (record {
-          rule = w .session .rule;
-          marks = set (w .session .marks) job false;
-          tiles = length t;
-          operations = others-count i;
-          journal = w .session .journal;
-          levels = levelsOf t;
-          spoken = spoken-undone i;
-        })
-        (padded (length (w .tiles)) t) (padded (length (w .operations)) (others-left i)) (w .journal)
 
   module _ (job sheet : ℕ) (p : Procedure) (key : ℕ) where
     abbrev new : ℕ
@@ -280,20 +196,7 @@ module _ (w : World) (few : length (w .session .marks) ≡ 64) where
         let more = c ∙ padded-more (w .operations) (w .session .operations) new slot-free (entry-table w (r .tabled)) in
         (λ i. world s (b i) (more i) (w .journal)) ∙ operation-form w (r .tabled) job sheet p key s (a ∙ entered-is w (r .tabled) job sheet p key (r .named .1))
 
-  pub aborted : (job : ℕ) → Ready w (abort job) → (c : Tally) (s : Session) (tiles operations : List ℕ)
-      → c ≡ tallyOf (recoveredJob job (usedOperations w) (usedTiles w)) → tiles ≡ padded (length (w .tiles)) (recoveredJob job (usedOperations w) (usedTiles w))
-      → s ≡ closed (w .session) job (length (withoutJob job (usedOperations w))) (spokenBy (w .session .rule) (usedTiles w) (others job (map opIn (usedOperations w))))
-      → operations ≡ padded (length (w .operations)) (withoutJob job (usedOperations w))
-      → world (withTally s c) tiles operations (w .journal) ≡ withState w (perform (state w) (abort job))
-  aborted job r c s tiles operations a b x d = (λ i. world (withTally (x i) (a i)) (b i) (d i) (w .journal)) ∙ sym (abort-form w (r .tabled) job)
-
--- what an open and a commit leave
-module _ (w : World) (o : Tabled w) (job : ℕ) (s : Session) where
-  pub after-open : s ≡ markedOpen (w .session) job → world s (w .tiles) (w .operations) (w .journal) ≡ withState w (perform (state w) (openJob job))
-  after-open is = ap (λ (x : Session). world x (w .tiles) (w .operations) (w .journal)) is ∙ sym (open-form w o job)
-
-  pub after-commit : (operations : List ℕ)
-      → s ≡ closed (w .session) job (length (withoutJob job (usedOperations w))) (spokenBy (w .session .rule) (usedTiles w) (others job (map opIn (usedOperations w))))
-      → operations ≡ padded (length (w .operations)) (withoutJob job (usedOperations w))
-      → world s (w .tiles) operations (w .journal) ≡ withState w (perform (state w) (commit job))
-  after-commit operations is left = ap₂ {C = World} (λ (x : Session) (y : List ℕ). world x (w .tiles) y (w .journal)) is left ∙ sym (commit-form w o job)
+-- what an open leaves
+pub after-open : (w : World) → Tabled w → (job : ℕ) (s : Session)
+    → s ≡ markedOpen (w .session) job → world s (w .tiles) (w .operations) (w .journal) ≡ withState w (perform (state w) (openJob job))
+after-open w o job s is = ap (λ (x : Session). world x (w .tiles) (w .operations) (w .journal)) is ∙ sym (open-form w o job)

@@ -1,4 +1,3 @@
-pub mod Undoing
 pub mod Counting
 pub mod Events
 pub mod Forms

@@ -1,8 +1,24 @@
 -- `engine::affect` meets its contract: each procedure is what its effect says
+use mathlib.Core.Bool.{false}
+use mathlib.Core.List.{List}
+use mathlib.Core.Path.{_≡_}
+use Prim.Native.Nat.{_<_, _≤_, ℕ}
+use native.Mathlib.Omega.{arith}
+use lib.ListN.{length, take}
 use borrow.Author.Needs.{needs}
-use Rattle.engine.proofs.Laws.{place-for}
+use Rattle.strict.specs.Laws.Room.{length-insert}
+use Rattle.strict.specs.Tiles.{insertTile, member}
+use Rattle.search.specs.Laws.{used-length}
+use Rattle.search.specs.Table.{TileTable}
 use Rattle.engine.proofs.affect.Statement.{statement}
 use Rattle.engine.proofs.affect.Tie as tie
+
+-- where the tiles fit with the key among them, there is a place for it
+place-for : {l : List ℕ} {count : ℕ} → TileTable l count → (k : ℕ) → length (insertTile k (take count l)) ≤ length l → member k (take count l) ≡ false → count < length l
+place-for {l} {count} t k fit absent =
+    let n = used-length t in
+    let e = rw absent at (length-insert k (take count l) (t .ascending)) in
+    omega arith
 
 enum-told : tie.Need-enum-told
 enum-told c = search needs

@@ -1,4 +1,4 @@
--- `engine::close_job` meets its contract: the job's entries go, with what they speak for
+-- `closing::close_job` meets its contract: the job's entries go, with what they speak for
 use mathlib.Core.List.{[]}
 use mathlib.Core.Path.{_∙_, ap}
 use lib.ListN.{length, take}
@@ -7,10 +7,10 @@ use denote.Ref.{now}
 use Rattle.admission.specs.Laws.{entry-table}
 use Rattle.entries.specs.Table.{withoutJob}
 use Rattle.service.specs.World.{World, world}
-use Rattle.engine.proofs.close_job.Statement.{statement}
-use Rattle.engine.proofs.close_job.Tie as tie
-use Rattle.engine.specs.Events.{closed}
-use Rattle.engine.specs.Forms.{after-commit}
+use Rattle.closing.proofs.close_job.Statement.{statement}
+use Rattle.closing.proofs.close_job.Tie as tie
+use Rattle.closing.specs.Ending.{closed}
+use Rattle.closing.specs.Forms.{after-commit}
 
 -- what the function was given
 abbrev given : tie.Start → World

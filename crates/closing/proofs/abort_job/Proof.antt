@@ -1,4 +1,4 @@
--- `engine::abort_job` meets its contract: the recoveries, newest first, and then what a commit does
+-- `closing::abort_job` meets its contract: the recoveries, newest first, and then what a commit does
 use mathlib.Core.Bool.{Bool, true}
 use mathlib.Core.List.{List, [], _∷_}
 use mathlib.Core.Path.{_∙_, _≡_, ap}
@@ -13,18 +13,15 @@ use Rattle.service.specs.Entry.{keyIn}
 use Rattle.service.specs.Sound.{Entry}
 use Rattle.service.specs.Tile.{isKey}
 use Rattle.service.specs.World.{World, world}
-use Rattle.engine.proofs.Laws.{tallied}
-use Rattle.engine.proofs.abort_job.Statement.{statement}
-use Rattle.engine.proofs.abort_job.Tie as tie
-use Rattle.engine.specs.Events.{closed}
-use Rattle.engine.specs.Forms.{aborted}
+use Rattle.closing.proofs.Laws.{tallied}
+use Rattle.closing.proofs.abort_job.Statement.{statement}
+use Rattle.closing.proofs.abort_job.Tie as tie
+use Rattle.closing.specs.Ending.{closed}
+use Rattle.closing.specs.Forms.{aborted}
 
 -- what the function was given
 abbrev given : tie.Start → World
 given c = world (c .args .session) (now (c .args .tiles)) (now (c .args .operations)) []
-
-full : (c : tie.Start) → length (c .args .session .marks) ≡ 64
-full c = search (needs, c .good)
 
 -- every entry has a valid key
 valid-keys : (marks : List Bool) (es : List ℕ) → All (Entry marks) es → All (λ e. isKey (keyIn e) ≡ true) es
@@ -65,7 +62,7 @@ returns c =
     let undone = rw (u .before .before .tally-of .ensures) at (u .undo .ensures) in
     let cleared = c .before .before .before .clear-job .ensures in
     rw (c .counting .ensures)
-    (aborted (given s) (full s) (a .job) (s .pre) _ _ _ _ (undone .0) (undone .1)
+    (aborted (given s) (s .pre .tabled) (a .job) _ _ _ _ (undone .0) (undone .1)
     (cleared .0 ∙ ap (closed (a .session) (a .job) (length (withoutJob (a .job) (take (a .session .operations) (now (a .operations)))))) (u .before .before .before .before .spoken-without .ensures))
     (cleared .1))
 

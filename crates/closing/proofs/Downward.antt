@@ -18,9 +18,8 @@ use Rattle.levels.specs.Tally.{tallyOf}
 use Rattle.levels.specs.declared.Tally.{Tally}
 use Rattle.search.specs.Laws.{padded-table}
 use Rattle.search.specs.Table.{TileTable}
-use Rattle.engine.specs.Counting.{Tallied}
-use Rattle.engine.specs.Undoing.{recovered, recoveredJob}
-use Rattle.engine.proofs.Laws.{undone-ascending, undone-fits}
+use Rattle.closing.specs.Ending.{Tallied, recovered, recoveredJob}
+use Rattle.closing.proofs.Laws.{undone-ascending, undone-fits}
 
 -- the entries es from i on have been undone
 pub record Undoing (tiles₀ : List ℕ) (count : ℕ) (es : List ℕ) (job : ℕ) (tiles : List ℕ) (left : Tally) (i : ℕ) : Type 0 where

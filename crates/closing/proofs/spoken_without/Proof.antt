@@ -1,13 +1,13 @@
--- `engine::spoken_without` meets its contract: what the job's entries speak for is a part of all
+-- `closing::spoken_without` meets its contract: what the job's entries speak for is a part of all
 use mathlib.Core.List.{[]}
 use Prim.Native.Nat.{_≤_}
 use native.Mathlib.Omega.{arith}
 use denote.Ref.{now}
 use Rattle.admission.specs.Laws.{tile-table}
 use Rattle.service.specs.World.{World, world}
-use Rattle.engine.specs.Forms.{spoken-left}
-use Rattle.engine.proofs.spoken_without.Statement.{statement}
-use Rattle.engine.proofs.spoken_without.Tie as tie
+use Rattle.closing.specs.Forms.{spoken-left}
+use Rattle.closing.proofs.spoken_without.Statement.{statement}
+use Rattle.closing.proofs.spoken_without.Tie as tie
 
 -- what the function was given
 abbrev given : tie.Start → World

@@ -1,4 +1,4 @@
--- `engine::undo` meets its contract: at each turn the entries from i on have been undone
+-- `closing::undo` meets its contract: at each turn the entries from i on have been undone
 use mathlib.Core.Bool.{true}
 use mathlib.Core.List.{List, [], _∷_}
 use mathlib.Core.Path.{_∙_, _≡_, ap, sym}
@@ -11,9 +11,9 @@ use denote.Ref.{now}
 use Rattle.lists.specs.Lists.{All}
 use Rattle.service.specs.Entry.{keyIn}
 use Rattle.service.specs.Tile.{isKey}
-use Rattle.engine.proofs.Downward.{Undoing, begins, passes, recovers, recovery-fits, same-places, tallied-now}
-use Rattle.engine.proofs.undo.Statement.{statement}
-use Rattle.engine.proofs.undo.Tie as tie
+use Rattle.closing.proofs.Downward.{Undoing, begins, passes, recovers, recovery-fits, same-places, tallied-now}
+use Rattle.closing.proofs.undo.Statement.{statement}
+use Rattle.closing.proofs.undo.Tie as tie
 
 -- each entry of which all have it
 all-at : (P : ℕ → Type 0) (l : List ℕ) (i : ℕ) → i < length l → All P l → P (getD l i 0)

@@ -1,11 +1,11 @@
--- `engine::affect_counting` meets its contract: the tiles, and their count
+-- `closing::affect_counting` meets its contract: the tiles, and their count
 use mathlib.Core.Path.{_∙_, ap, subst, sym}
 use Rattle.levels.specs.Tally.{Movable, tallyAfter}
 use Rattle.tiles.specs.declared.Spot.{Spot}
-use Rattle.engine.proofs.Laws.{may-move, moves}
+use Rattle.closing.proofs.Laws.{may-move, moves}
 use borrow.Author.Needs.{needs}
-use Rattle.engine.proofs.affect_counting.Statement.{statement}
-use Rattle.engine.proofs.affect_counting.Tie as tie
+use Rattle.closing.proofs.affect_counting.Statement.{statement}
+use Rattle.closing.proofs.affect_counting.Tie as tie
 
 affect-requires : tie.Need-affect-requires
 affect-requires c κs = let p = c .before .before .pre in (p .0 .table, p .1, p .3)

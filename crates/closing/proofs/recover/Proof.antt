@@ -1,4 +1,4 @@
--- `engine::recover` meets its contract: by the entry's kind
+-- `closing::recover` meets its contract: by the entry's kind
 use mathlib.Core.Path.{_∙_, _≡_, ap, sym}
 use mathlib.Core.Bool.{true}
 use Prim.Native.Nat.{ℕ}
@@ -9,9 +9,9 @@ use Rattle.service.specs.Entry.{keyIn, kindIn}
 use Rattle.service.specs.Tile.{isKey}
 use Rattle.tiles.specs.Laws.{spot-named}
 use Rattle.tiles.specs.declared.Spot.{Spot}
-use Rattle.engine.proofs.Laws.{recovered-one, recovered-other, recovered-three}
-use Rattle.engine.proofs.recover.Statement.{statement}
-use Rattle.engine.proofs.recover.Tie as tie
+use Rattle.closing.proofs.Laws.{recovered-one, recovered-other, recovered-three}
+use Rattle.closing.proofs.recover.Statement.{statement}
+use Rattle.closing.proofs.recover.Tie as tie
 
 -- the kind that the code looks at
 kind-is : (c : tie.After-key-in) → kindIn (c .before .before .before .args .e) ≡ c .before .kind-in .result

@@ -1,9 +1,9 @@
--- `engine::clear_job` meets its contract: the gaps are closed, and the mark is taken away
+-- `closing::clear_job` meets its contract: the gaps are closed, and the mark is taken away
 use mathlib.Core.Path.{ap}
-use Rattle.engine.specs.Events.{closed}
+use Rattle.closing.specs.Ending.{closed}
 use borrow.Author.Needs.{needs}
-use Rattle.engine.proofs.clear_job.Statement.{statement}
-use Rattle.engine.proofs.clear_job.Tie as tie
+use Rattle.closing.proofs.clear_job.Statement.{statement}
+use Rattle.closing.proofs.clear_job.Tie as tie
 
 close-gaps-requires : tie.Need-close-gaps-requires
 close-gaps-requires c κs = search needs

@@ -1,9 +1,9 @@
--- Room for a tile, and what recoveries do to the tiles
-use mathlib.Core.Bool.{false, true}
+-- What recoveries do to the tiles, and a count of them
+use mathlib.Core.Bool.{true}
 use mathlib.Core.List.{List, [], _∷_, map}
 use mathlib.Core.Logic.{_≢_}
 use mathlib.Core.Path.{_∙_, _≡_, ap, subst, sym}
-use Prim.Native.Nat.{_+_, _<_, _≤_, suc, zero, ℕ}
+use Prim.Native.Nat.{_+_, _≤_, suc, zero, ℕ}
 use native.Mathlib.Omega.{arith}
 use lib.Dec.{eqb}
 use lib.ListN.{drop, length, take}
@@ -13,7 +13,6 @@ use Rattle.service.specs.Entry.{jobIn, keyIn, kindIn, opIn}
 use Rattle.strict.specs.Book.{counted}
 use Rattle.strict.specs.Laws.Counted.{counted-abort}
 use Rattle.strict.specs.Laws.Members.{ascending-apply}
-use Rattle.strict.specs.Laws.Room.{length-insert}
 use Rattle.strict.specs.Operations.{apply, clear, effect, put}
 use Rattle.strict.specs.Tiles.{Ascending, delete, insertTile, member}
 use Rattle.strict.specs.declared.Procedure.{Procedure}
@@ -21,21 +20,14 @@ use Rattle.service.specs.Sound.{Tabled}
 use Rattle.service.specs.Tile.{isKey}
 use Rattle.service.specs.World.{World}
 use Rattle.search.specs.Laws.{used-length}
-use Rattle.search.specs.Table.{TileTable}
 use Rattle.levels.specs.Laws.{movable, tally-kept}
 use Rattle.levels.specs.Tally.{Movable, tallyAfter, tallyOf}
 use Rattle.levels.specs.declared.Tally.{Tally}
 use Rattle.admission.specs.Laws.{tile-table}
-use Rattle.engine.specs.Counting.{Tallied, tallyIn}
-use Rattle.engine.specs.Forms.{recover-entries, tally-there}
-use Rattle.engine.specs.Undoing.{recovered, recoveredJob}
-
--- where the tiles fit with the key among them, there is a place for it
-pub place-for : {l : List ℕ} {count : ℕ} → TileTable l count → (k : ℕ) → length (insertTile k (take count l)) ≤ length l → member k (take count l) ≡ false → count < length l
-place-for {l} {count} t k fit absent =
-    let n = used-length t in
-    let e = rw absent at (length-insert k (take count l) (t .ascending)) in
-    omega arith
+use Rattle.engine.specs.Counting.{tallyIn}
+use Rattle.engine.specs.Forms.{tally-there}
+use Rattle.closing.specs.Forms.{recover-entries}
+use Rattle.closing.specs.Ending.{Tallied, recovered, recoveredJob}
 
 -- a recovery by the entry's kind
 module _ (e : ℕ) (t : List ℕ) where
