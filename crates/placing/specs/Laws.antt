@@ -1,4 +1,3 @@
 -- The proofs behind the passes
 pub mod Carrying
-pub mod Calling
 pub mod Parting

@@ -13,10 +13,7 @@ use Rattle.service.specs.Told.{bare, decided}
 use Rattle.service.specs.World.{Reported, World}
 use Rattle.service.specs.declared.Told.{Told}
 use Rattle.rectangles.specs.Claims.{Apart}
-use Rattle.rectangles.specs.Rectangles.{carriedAll, covered, listRefusals, mostInRectangle}
-use Rattle.rectangles.specs.declared.Rectangle.{Rectangle}
-use Rattle.shapes.specs.Shaping.{Shapes}
-use Rattle.shapes.specs.declared.Shape.the-variants.{Fine}
+use Rattle.rectangles.specs.Rectangles.{carriedAll, listRefusals, mostInRectangle}
 
 -- 6, 7, 8 and 9 of a list, and else all of it
 abbrev pub listAfter : World → ℕ → ℕ → Procedure → List ℕ → Told → Reported
@@ -25,10 +22,6 @@ listAfter w job sheet p ks t = record { told = t; after = cond (eqb (t .number) 
 unfoldable pub listCall : World → ℕ → ℕ → Procedure → List ℕ → Reported
 listCall w job sheet p ks = listAfter w job sheet p ks (decided (listRefusals w job p ks) (bare 0))
 
--- a list that is done tells the turns of its rectangle
-abbrev pub turnsAdded : Rectangle → Told → Told
-turnsAdded r t = cond (eqb (t .number) 0) (covered r) t
-
 -- 1, 2 and 3 do not refuse, and the first n of l are keys of different tiles
 pub record Carries (w : World) (job : ℕ) (l : List ℕ) (n : ℕ) : Type 0 where
   pub ready : Serves w job
@@ -36,8 +29,3 @@ pub record Carries (w : World) (job : ℕ) (l : List ℕ) (n : ℕ) : Type 0 whe
   pub fits-list : n ≤ length l
   pub valid : All (λ k. isKey k ≡ true) (take n l)
   pub apart : Apart (take n l)
-
--- nor do 14, 5 and 13
-pub record Asks (w : World) (job : ℕ) (r : Rectangle) (corner height n : ℕ) : Type 0 where
-  pub ready : Serves w job
-  pub shape : Shapes r (Fine corner height n)

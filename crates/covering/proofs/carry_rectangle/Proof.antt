@@ -1,14 +1,14 @@
--- `placing::carry_rectangle` meets its contract: the list as it was written is the rectangle's
+-- `covering::carry_rectangle` meets its contract: the list as it was written is the rectangle's
 use mathlib.Core.Path.{_∙_, ap}
 use native.Mathlib.Omega.{arith}
 use borrow.Author.Needs.{needs}
 use denote.Ref.{now}
 use Rattle.service.specs.World.{World, world}
 use Rattle.shapes.specs.Laws.Listed.{shape-few}
-use Rattle.placing.proofs.carry_rectangle.Statement.{statement}
-use Rattle.placing.proofs.carry_rectangle.Tie as tie
-use Rattle.placing.specs.Laws.Calling.{asks-carries}
+use Rattle.covering.proofs.carry_rectangle.Statement.{statement}
+use Rattle.covering.proofs.carry_rectangle.Tie as tie
+use Rattle.covering.specs.Laws.{asks-carries}
 use Rattle.placing.specs.Passes.{listCall}
 
 -- what the function was given
 abbrev given : tie.Start → World

@@ -1,11 +1,11 @@
--- `placing::rectangle` meets its contract: 1, 2 and 3, and then as its shape says
+-- `covering::rectangle` meets its contract: 1, 2 and 3, and then as its shape says
 use borrow.Author.Needs.{needs}
 use denote.Ref.{now}
 use Rattle.lists.specs.Truth.{test-fails, test-passes}
 use Rattle.service.specs.World.{World, world}
-use Rattle.placing.proofs.rectangle.Statement.{statement}
-use Rattle.placing.proofs.rectangle.Tie as tie
-use Rattle.placing.specs.Laws.Calling.{gate-ready, gate-told}
+use Rattle.covering.proofs.rectangle.Statement.{statement}
+use Rattle.covering.proofs.rectangle.Tie as tie
+use Rattle.covering.specs.Laws.{gate-ready, gate-told}
 
 -- what the function was given
 abbrev given : tie.Start → World

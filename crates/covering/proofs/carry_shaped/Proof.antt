@@ -1,4 +1,4 @@
--- `placing::carry_shaped` meets its contract: 14, 5, 13, or the list
+-- `covering::carry_shaped` meets its contract: 14, 5, 13, or the list
 use mathlib.Core.Path.{_∙_, ap, subst}
 use borrow.Author.Needs.{needs}
 use denote.Ref.{now}
@@ -7,10 +7,10 @@ use Rattle.rectangles.specs.Rectangles.{keys, listed}
 use Rattle.service.specs.World.{World, world}
 use Rattle.shapes.specs.Shaping.{Shapes}
 use Rattle.shapes.specs.declared.Shape.the-variants.{Fine}
-use Rattle.placing.proofs.carry_shaped.Statement.{statement}
-use Rattle.placing.proofs.carry_shaped.Tie as tie
-use Rattle.placing.specs.Laws.Calling.{tells-five, tells-fourteen, tells-list, tells-thirteen}
+use Rattle.covering.proofs.carry_shaped.Statement.{statement}
+use Rattle.covering.proofs.carry_shaped.Tie as tie
+use Rattle.covering.specs.Laws.{tells-five, tells-fourteen, tells-list, tells-thirteen}
 use Rattle.placing.specs.Passes.{listCall}
 
 -- what the function was given
 abbrev given : tie.Start → World

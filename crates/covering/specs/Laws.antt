@@ -1,7 +1,7 @@
 -- From the gate and the shape of a rectangle to what the call promises
 use mathlib.Core.Bool.{Bool, cond, false, not, true}
 use mathlib.Core.List.{List, [], _∷_}
-use mathlib.Core.Path.{_∙_, _≡_, ap, ap₂, refl, subst, sym}
+use mathlib.Core.Path.{_∙_, _≡_, ap, refl, subst, sym}
 use Prim.Native.Nat.{_≤_, ℕ}
 use lib.Dec.{eqb}
 use lib.IntN.{pos}
@@ -25,8 +25,9 @@ use Rattle.rectangles.specs.Rectangles.{carriedAll, covered, keys, listRefusals
 use Rattle.rectangles.specs.declared.Change.{Change}
 use Rattle.rectangles.specs.declared.Rectangle.{Rectangle}
 use Rattle.shapes.specs.Laws.Listed.{all-valid, shape-few}
 use Rattle.placing.specs.Laws.Carrying.{list-numbered}
-use Rattle.placing.specs.Passes.{Asks, Carries, listAfter, listCall, turnsAdded}
+use Rattle.placing.specs.Passes.{Carries, listAfter, listCall}
+use Rattle.covering.specs.Asking.{Asks, turnsAdded}
 
 -- the list as it was written
 pub asks-carries : (w : World) (job : ℕ) (r : Rectangle) (corner height n : ℕ) → Asks w job r corner height n → (l : List ℕ) → n ≤ length l → take n l ≡ keys (listed r)

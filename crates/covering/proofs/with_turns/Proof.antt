@@ -1,4 +1,4 @@
--- `placing::with_turns` meets its contract: the turns are those of west and of east, as the casts read them back
+-- `covering::with_turns` meets its contract: the turns are those of west and of east, as the casts read them back
 use mathlib.Core.Bool.{cond}
 use mathlib.Core.Path.{_∙_, _≡_, ap, ap₂, sym}
 use Prim.Native.Nat.{_<_, ℕ}
@@ -13,8 +13,8 @@ use Rattle.rectangles.specs.Rectangles.{covered}
 use Rattle.service.specs.Tile.{turnsOf}
 use Rattle.service.specs.Told.{told}
 use Rattle.service.specs.declared.Told.{Told}
-use Rattle.placing.proofs.with_turns.Statement.{statement}
-use Rattle.placing.proofs.with_turns.Tie as tie
+use Rattle.covering.proofs.with_turns.Statement.{statement}
+use Rattle.covering.proofs.with_turns.Tie as tie
 
 -- the turns of a column that is a field
 turns-back : (column found : ℤ) (n : ℕ) → mag column < 2147483648 → found ≡ turnsOf (toZ w32 (ofZ w32 column)) n → toZ w32 (ofZ w32 found) ≡ turnsOf column n
