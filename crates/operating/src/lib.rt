@@ -2,13 +2,13 @@
 ghost use mathlib.Core.Path.{_≡_};
 ghost use Rattle.service.specs.Calls.{emptySession, operationCall, startCall};
 ghost use Rattle.service.specs.World.{reported, world};
-use decisions::Decision;
 use service::Address;
 use service::Outcome;
 use service::Reply;
 use service::Session;
 use strict::Procedure;
 use strict::Rule;
+use weighing::Decision;
 
 // A start that is refused: no job open, all counts 0, by the first rule.
 fn refused_start(reply: Reply) -> Outcome
@@ -65,7 +65,7 @@ pub fn operation(
     ensures { λ r. ⌜ reported r (now (tiles .exit)) (now (operations .exit)) (now (journal .exit))
         ≡ operationCall (world session (now (tiles .entry)) (now (operations .entry)) (now (journal .entry))) job sheet procedure address ⌝ }
 {
-    match decisions::operation_decision(
+    match weighing::operation_decision(
         session,
         tiles,
         operations,

@@ -1,4 +1,4 @@
--- `decisions::judge_keyed` meets its contract: the engine's verdict, and then the journal's room
+-- `weighing::judge_keyed` meets its contract: the engine's verdict, and then the journal's room
 use mathlib.Core.List.{[]}
 use mathlib.Core.Path.{_≡_, sym}
 use Prim.Native.Nat.{_*_, _+_}
@@ -13,9 +13,9 @@ use Rattle.service.specs.World.{World, world}
 use Rattle.admission.specs.Laws.{verdict-seen}
 use Rattle.admission.specs.declared.Verdict.the-variants.{NoOperationRoom, NoTileRoom}
 use Rattle.admission.specs.declared.Verdict.{Verdict}
-use Rattle.decisions.specs.Laws.{Meaning, judges-held, judges-no-bytes, judges-no-place, judges-no-slot, judges-perform}
-use Rattle.decisions.proofs.judge_keyed.Statement.{statement}
-use Rattle.decisions.proofs.judge_keyed.Tie as tie
+use Rattle.weighing.specs.Laws.{Meaning, judges-held, judges-no-bytes, judges-no-place, judges-no-slot, judges-perform}
+use Rattle.weighing.proofs.judge_keyed.Statement.{statement}
+use Rattle.weighing.proofs.judge_keyed.Tie as tie
 
 -- what the function was given
 abbrev given : tie.Start → World

@@ -13,8 +13,8 @@ use Rattle.service.specs.World.{World, usedTiles}
 use Rattle.service.specs.declared.Address.{Address}
 use Rattle.service.specs.declared.Told.{Told}
 use Rattle.tiles.specs.Table.{spotOf}
-use Rattle.decisions.specs.declared.Decision.the-variants.{Perform, Refuse}
-use Rattle.decisions.specs.declared.Decision.{Decision}
+use Rattle.weighing.specs.declared.Decision.the-variants.{Perform, Refuse}
+use Rattle.weighing.specs.declared.Decision.{Decision}
 
 -- a refusal is the reply that the refusals decide; where none applies, the operation is performed on that key, at its place among these tiles, with those turns
 abbrev pub Concludes : List Refusal → List ℕ → ℕ → ℤ → Decision → Type 0

@@ -1,4 +1,4 @@
--- `decisions::operation_decision` meets its contract: the refusals of an end, then the address, then those of an operation with a key
+-- `weighing::operation_decision` meets its contract: the refusals of an end, then the address, then those of an operation with a key
 use mathlib.Core.Bool.{true}
 use mathlib.Core.Path.{_∙_, _≡_, ap, sym}
 use lib.Dec.{eqb}
@@ -9,9 +9,9 @@ use Rattle.service.specs.Tile.{placed}
 use Rattle.service.specs.Told.{told}
 use Rattle.service.specs.World.{World, world}
 use Rattle.address.proofs.Signed.{field-read}
-use Rattle.decisions.proofs.operation_decision.Statement.{statement}
-use Rattle.decisions.specs.Laws.{decides-gate, decides-judged, decides-no-edition, decides-no-key, passed-sound}
-use Rattle.decisions.proofs.operation_decision.Tie as tie
+use Rattle.weighing.proofs.operation_decision.Statement.{statement}
+use Rattle.weighing.specs.Laws.{decides-gate, decides-judged, decides-no-edition, decides-no-key, passed-sound}
+use Rattle.weighing.proofs.operation_decision.Tie as tie
 
 -- what the function was given
 abbrev given : tie.Start → World
