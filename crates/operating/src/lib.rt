@@ -47,7 +47,7 @@ pub fn start(
             turns: 0,
             last: 0,
         },
-        session: jobs::advanced(begun, written),
+        session: performing::advanced(begun, written),
     }
 }
 
@@ -75,7 +75,7 @@ pub fn operation(
         address,
     ) {
         Decision::Refuse(reply) => Outcome { reply, session },
-        Decision::Perform { spot, turns } => jobs::carry_out(
+        Decision::Perform { spot, turns } => performing::carry_out(
             session,
             tiles,
             operations,
