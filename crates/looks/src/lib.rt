@@ -24,10 +24,10 @@ fn lone_address(command: Command) -> Address {
 fn read(session: Session, journal: &[u8], place: usize) {
     let used = session.journal;
     if journal.len() < used {
-        answers::print_read(sanbirogu::next_record(journal, place), place);
+        answers::print_read(by_reader::read_at(journal, place), place);
         return;
     }
-    answers::print_read(sanbirogu::next_record(&journal[..used], place), place);
+    answers::print_read(by_reader::read_at(&journal[..used], place), place);
 }
 
 fn run_replay(

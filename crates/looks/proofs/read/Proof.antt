@@ -6,8 +6,8 @@ use borrow.Author.Needs.{needs}
 use Rattle.looks.proofs.read.Statement.{statement}
 use Rattle.looks.proofs.read.Tie as tie
 
-next-record-requires : tie.Need-next-record-requires
-next-record-requires c κs = search needs
+read-at-requires : tie.Need-read-at-requires
+read-at-requires c κs = search needs
 
 print-read-requires : tie.Need-print-read-requires
 print-read-requires c κs = search needs
@@ -15,11 +15,11 @@ print-read-requires c κs = search needs
 returns : tie.Need-returns
 returns c = search needs
 
-slice-aggregate-next-record : tie.Need-slice-aggregate-next-record
-slice-aggregate-next-record c = sym (length-take-le _ _ (omega arith))
+slice-aggregate-read-at : tie.Need-slice-aggregate-read-at
+slice-aggregate-read-at c = sym (length-take-le _ _ (omega arith))
 
-next-record-requires-2 : tie.Need-next-record-requires-2
-next-record-requires-2 c κs = search needs
+read-at-requires-2 : tie.Need-read-at-requires-2
+read-at-requires-2 c κs = search needs
 
 print-read-requires-2 : tie.Need-print-read-requires-2
 print-read-requires-2 c κs = search needs
@@ -31,10 +31,10 @@ pub read-spec : {M : Type 1} → statement M
 read-spec =
     tie.close
     (tie.spec
-    next-record-requires
+    read-at-requires
     print-read-requires
     returns
-    slice-aggregate-next-record
-    next-record-requires-2
+    slice-aggregate-read-at
+    read-at-requires-2
     print-read-requires-2
     returns-2)
