@@ -154,35 +154,20 @@ fn change_word(line: &[u8], end: usize) -> Word {
 // The types of a word's numbers: a count or a key up to 2^32 - 1, a byte, a sheet, a signed number, an entry up to 2^64 - 1, or none.
 pub fn types_of(word: Word) -> [u8; MOST_NUMBERS] {
     match word {
-        Word::Lend => *b"nnn-----",
-        Word::Start => *b"nb------",
-        Word::Open => *b"b-------",
-        Word::Ins => *b"bhbbss--",
-        Word::Del => *b"bhbbss--",
-        Word::Mem => *b"bhbbss--",
-        Word::InsAll => *b"bhbbssss",
-        Word::DelAll => *b"bhbbssss",
-        Word::Commit => *b"b-------",
-        Word::Abort => *b"b-------",
+        Word::Lend | Word::Mend => *b"nnn-----",
+        Word::Start | Word::Byte => *b"nb------",
+        Word::Open | Word::Commit | Word::Abort | Word::Rule => *b"b-------",
+        Word::Ins | Word::Del | Word::Mem => *b"bhbbss--",
+        Word::InsAll | Word::DelAll => *b"bhbbssss",
         Word::Address => *b"bbss----",
-        Word::Read => *b"n-------",
-        Word::Replay => *b"nn------",
-        Word::Mend => *b"nnn-----",
-        Word::Levels => *b"--------",
-        Word::Sum => *b"--------",
-        Word::Show => *b"--------",
-        Word::Help => *b"--------",
-        Word::Tile => *b"nn------",
+        Word::Read | Word::Tiles | Word::Operations | Word::Journal | Word::Spoken => {
+            *b"n-------"
+        }
+        Word::Replay | Word::Tile => *b"nn------",
         Word::Entry => *b"ne------",
-        Word::Byte => *b"nb------",
-        Word::Tiles => *b"n-------",
-        Word::Operations => *b"n-------",
-        Word::Journal => *b"n-------",
         Word::Mark => *b"bb------",
-        Word::Rule => *b"b-------",
         Word::Level => *b"bn------",
-        Word::Spoken => *b"n-------",
-        Word::Unknown => *b"--------",
+        Word::Levels | Word::Sum | Word::Show | Word::Help | Word::Unknown => *b"--------",
     }
 }
 
