@@ -7,12 +7,11 @@ use Prim.Native.Nat.{_+_, ℕ}
 use lib.Dec.{eqb}
 use lib.ListN.{length}
 use Rattle.lists.specs.Truth.{oneIf}
-use Rattle.strict.specs.Book.{Book, bookAfter, counted, deleted, heldBy, needsPlace, others, placesTaken, recover, reserved, step}
+use Rattle.strict.specs.Book.{Book, counted, deleted, heldBy, needsPlace, others, placesTaken, recover, reserved, step}
 use Rattle.strict.specs.Commutativity.{Signature, holder, holds, signatureOf}
 use Rattle.strict.specs.Histories.{Event, abort, commit, mine, openJob, operation}
 use Rattle.strict.specs.Operations.{Op, begun, kind, ofSheet, undo}
-use Rattle.strict.specs.Sheets.{sheetless, sheetlessBook, sheetlessBy, sheetlessEvent, sheetlessHistory}
-use Rattle.strict.specs.Strict.{Log, _▷_, empty}
+use Rattle.strict.specs.Sheets.{sheetless, sheetlessBook, sheetlessBy, sheetlessEvent}
 use Rattle.strict.specs.Tiles.{member}
 use Rattle.strict.specs.declared.Procedure.{Procedure}
 use Rattle.strict.specs.declared.Rule.the-variants.{Alone, Together}
@@ -75,10 +74,6 @@ step-sheetless m (openJob j) = refl
 step-sheetless m (operation j sheet p k) = ap (λ l. record { tiles = step m (operation j sheet p k) .tiles; table = l }) (sym (map-last (m .table) (ofSheet sheet (begun j p k (m .tiles)))))
 step-sheetless m (commit j) = ap (λ l. record { tiles = m .tiles; table = l }) (others-sheetless j (m .table))
 step-sheetless m (abort j) = ap₂ (λ t l. record { tiles = t; table = l }) (recover-sheetless j (m .table) (m .tiles)) (others-sheetless j (m .table))
-
-pub book-sheetless : (s : List ℕ) (h : Log Event) → bookAfter s (sheetlessHistory h) ≡ sheetlessBook (bookAfter s h)
-book-sheetless s empty = refl
-book-sheetless s (h ▷ e) = ap (λ m. step m (sheetlessEvent e)) (book-sheetless s h) ∙ step-sheetless (bookAfter s h) e
 
 pub held-sheetless : (r : Rule) (m : Book) (j : ℕ) (p : Procedure) (k : ℕ) → sheetlessBy (heldBy r m j p k) ≡ heldBy r (sheetlessBook m) j p k
 held-sheetless r m j p k = holder-sheetless r (begun j p k (m .tiles)) (m .table)
