@@ -27,6 +27,7 @@ use Rattle.service.specs.declared.Told.{Told}
 use Rattle.rectangles.specs.Laws.Apart.{holds-not}
 use Rattle.rectangles.specs.Rectangles.{firstHeld, firstOf, listRefusals, mostInRectangle, needed}
 use Rattle.filter.specs.Filter.{elsewhere}
+use Rattle.rules.specs.Laws.{place-wanted, unmet-wants}
 use Rattle.judging.specs.Looks.{listBy, listOf, lookBy, lookOf, roomFor}
 use Rattle.judging.specs.declared.Found.the-variants as found
 use Rattle.judging.specs.declared.Found.{Found}
@@ -65,22 +66,11 @@ none-there b o (e ∷ es) h =
     let two = both (not (eqb (o .key) (keyIn e))) (elsewhere (o .key) es) h in
     rw (holds-not b o (opIn e) (eqb-false (o .key) (keyIn e) (not-true (eqb (o .key) (keyIn e)) (two .0)))) (none-there b o es (two .1))
 
-none-deleted : (k : ℕ) (es : List ℕ) → elsewhere k es ≡ true → deleted k (map opIn es) ≡ false
-none-deleted k [] h = refl
-none-deleted k (e ∷ es) h =
-    let two = both (not (eqb k (keyIn e))) (elsewhere k es) h in
-    let three = eqb (kind (opIn e .proc) (opIn e .found)) 3 in
-    both-false (ap (λ b. three && b) (not-true (eqb k (keyIn e)) (two .0)) ∙ and-false three) (none-deleted k es (two .1))
-
-place-there : (b : Rule) (us : List Op) (o : Op) → deleted (o .key) us ≡ false → needsPlace b us o ≡ eqb (kind (o .proc) (o .found)) 1
-place-there Alone us o h = refl
-place-there Together us o h = rw h (and-true _)
-
 pub apart-free : (b : Rule) (t es : List ℕ) (job : ℕ) (p : Procedure) (k : ℕ) → elsewhere k es ≡ true
     → look.Free (eqb (kind p (member k t)) 1) ≡ lookOf b (record { tiles = t; table = map opIn es }) job p k
 apart-free b t es job p k h =
     let o = begun job p k t in
-    free b (record { tiles = t; table = map opIn es }) job p k _ (none-there b o es h) (place-there b (map opIn es) o (none-deleted k es h))
+    free b (record { tiles = t; table = map opIn es }) job p k _ (none-there b o es h) (place-wanted job p k t b (map opIn es) ∙ unmet-wants b es (kind p (member k t)) k h)
 
 pub one-more : (b : Bool) → oneIf b ≤ 1
 one-more true = omega arith

@@ -10,7 +10,7 @@ kind-requires : tie.Need-kind-requires
 kind-requires c κs = search needs
 
 spoken-after-requires : tie.Need-spoken-after-requires
-spoken-after-requires c κs = rw (c .before .kind .ensures) (c .before .before .before .pre .speaks)
+spoken-after-requires c κs = (rw (c .before .kind .ensures) (c .before .before .before .pre .0 .speaks), c .before .before .before .pre .1)
 
 entry-requires : tie.Need-entry-requires
 entry-requires c κs = let a = c .before .before .before .before .args in rw (c .before .before .kind .ensures) (kind-range (a .procedure) (a .spot .there) .1)
@@ -25,13 +25,13 @@ tally-of-requires : tie.Need-tally-of-requires
 tally-of-requires c κs = search needs
 
 after-requires : tie.Need-after-requires
-after-requires c κs = rw (c .tally-of .ensures) (c .before .before .before .before .before .before .pre .movable)
+after-requires c κs = rw (c .tally-of .ensures) (c .before .before .before .before .before .before .pre .0 .movable)
 
 counting-requires : tie.Need-counting-requires
 counting-requires c κs = search needs
 
 add-next : tie.Need-add-next
-add-next c = let p = c .before .before .before .before .before .before .before .before .pre in omega (arith, p .slot, p .few-slots)
+add-next c = let p = c .before .before .before .before .before .before .before .before .pre in omega (arith, p .0 .slot, p .0 .few-slots)
 
 same-length : tie.Need-same-length
 same-length c = search needs

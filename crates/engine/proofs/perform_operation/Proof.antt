@@ -7,6 +7,7 @@ use denote.Ref.{now}
 use Rattle.admission.specs.Laws.{tile-table}
 use Rattle.service.specs.Entry.{packEntry}
 use Rattle.service.specs.World.{World, world}
+use Rattle.lists.specs.Truth.{never}
 use Rattle.strict.specs.Operations.{kind}
 use Rattle.strict.specs.Tiles.{member}
 use Rattle.tiles.specs.declared.Spot.{Spot}
@@ -34,7 +35,7 @@ affect-requires c κs =
 enter-requires : tie.Need-enter-requires
 enter-requires c κs =
     let s = c .before .before .before .before .before .before .before in
-    subst (λ b. Enters (s .args .session) (now (s .args .operations)) (s .args .procedure) (s .args .spot .key) b) (sym (found s)) (may-enter (given s) (full s) _ _ _ _ (s .pre .0))
+    (subst (λ b. Enters (s .args .session) (now (s .args .operations)) (s .args .procedure) (s .args .spot .key) b) (sym (found s)) (may-enter (given s) (full s) _ _ _ _ (s .pre .0)), never)
 
 same-length : tie.Need-same-length
 same-length c = search needs

@@ -3,8 +3,10 @@ use mathlib.Core.Bool.{Bool, cond, false, not, true}
 use mathlib.Core.Path.{_∙_, _≡_, refl, sym}
 use Prim.Native.Nat.{_-_}
 use denote.Ref.{now}
+use lib.ListN.{take}
+use Rattle.rules.specs.Laws.{unmet-wants}
 use Rattle.engine.specs.Counting.{wants}
-use borrow.Author.Tests.{eq-eqb, ne-eqb}
+use borrow.Author.Tests.{eq-eqb, ne-eqb, not-true}
 use borrow.Author.Needs.{needs}
 use Rattle.engine.proofs.spoken_after.Statement.{statement}
 use Rattle.engine.proofs.spoken_after.Tie as tie
@@ -29,17 +31,25 @@ returns-3 c =
     rw (ne-eqb _ _ (c .before .before .if1 .left), eq-eqb _ _ (c .before .if2 .left), c .if3 .taken)
     (nothing (not (wants (a .session) (now (a .operations)) (a .kind) (a .key))))
 
+-- where no entry has the tile, a place is needed and none is taken that was spoken for
+returns-4 : tie.Need-returns-4
+returns-4 c =
+    let s = c .before .before .before .before .before in
+    let a = s .args in
+    let one = eq-eqb _ _ (c .before .before .if2 .left) in
+    rw (ne-eqb _ _ (c .before .before .before .if1 .left), one, unmet-wants (a .session .rule) (take (a .session .operations) (now (a .operations))) (a .kind) (a .key) (s .pre .1 (not-true _ (c .if4 .taken))) ∙ one)
+
 needs-place-requires : tie.Need-needs-place-requires
 needs-place-requires c κs = search needs
 
-returns-4 : tie.Need-returns-4
-returns-4 c = rw (ne-eqb _ _ (c .before .before .before .before .if1 .left), eq-eqb _ _ (c .before .before .before .if2 .left), sym (c .before .needs-place .ensures) ∙ c .if4 .taken)
+returns-5 : tie.Need-returns-5
+returns-5 c = rw (ne-eqb _ _ (c .before .before .before .before .before .if1 .left), eq-eqb _ _ (c .before .before .before .before .if2 .left), sym (c .before .needs-place .ensures) ∙ c .if5 .taken)
 
 sub-result : tie.Need-sub-result
-sub-result c = c .before .before .before .before .before .before .pre .some (c .before .before .before .if2 .left) (sym (c .before .needs-place .ensures) ∙ c .if4 .left)
+sub-result c = c .before .before .before .before .before .before .before .pre .0 .some (c .before .before .before .before .if2 .left) (sym (c .before .needs-place .ensures) ∙ c .if5 .left)
 
-returns-5 : tie.Need-returns-5
-returns-5 c = rw (ne-eqb _ _ (c .before .before .before .before .if1 .left), eq-eqb _ _ (c .before .before .before .if2 .left), sym (c .before .needs-place .ensures) ∙ c .if4 .left)
+returns-6 : tie.Need-returns-6
+returns-6 c = rw (ne-eqb _ _ (c .before .before .before .before .before .if1 .left), eq-eqb _ _ (c .before .before .before .before .if2 .left), sym (c .before .needs-place .ensures) ∙ c .if5 .left)
 
 pub spoken-after-spec : {M : Type 1} → statement M
 spoken-after-spec =
@@ -49,7 +59,8 @@ spoken-after-spec =
     returns
     returns-2
     returns-3
-    needs-place-requires
     returns-4
+    needs-place-requires
+    returns-5
     sub-result
-    returns-5)
+    returns-6)
