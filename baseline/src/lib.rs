@@ -5,9 +5,10 @@
 
 #![forbid(unsafe_code)]
 
+pub mod at_once;
 pub mod calls;
 pub mod chains;
-mod engine;
+pub mod engine;
 pub mod entry;
 pub mod journal;
 pub mod levels;

@@ -10,6 +10,7 @@ use crate::rule::Rule;
 use crate::session::{JOBS, MOST_OPERATIONS, MOST_TILES};
 use crate::soundness::{slot, SPREAD};
 use crate::tile::is_key;
+use std::collections::HashSet;
 
 #[derive(Clone, Copy, Debug, PartialEq, Eq)]
 pub enum Sort {
@@ -54,6 +55,12 @@ impl Sort {
         let of_together = Sort::OF_TOGETHER.into_iter();
         let of_together = of_together.map(|sort| (Rule::Together, sort));
         Rule::ALL.into_iter().flat_map(of_both).chain(of_together)
+    }
+
+    /// Those that are full, of which the idle job can be given any even number of entries.
+    pub fn full() -> impl Iterator<Item = (Rule, Sort)> {
+        let others = [Sort::LittleUsed, Sort::Small, Sort::Own];
+        Sort::all().filter(move |(_, sort)| !others.contains(sort))
     }
 
     pub fn name(self) -> &'static str {
@@ -107,6 +114,16 @@ impl Sort {
         };
         world.session.rule = rule;
         recount(&mut world);
+        world
+    }
+
+    /// The same with so many of the entries given to the idle job.
+    pub fn employed_pack(self, rule: Rule, seed: u64, entries: usize) -> World {
+        let mut world = self.pack(rule, seed);
+        match self {
+            Sort::Replaced | Sort::ReplacedApart => employ_on_replaced(&mut world, entries),
+            _ => employ_idle_job(&mut world, entries),
+        }
         world
     }
 
@@ -207,11 +224,31 @@ fn inverse_of_spread() -> u32 {
 pub fn employ_idle_job(world: &mut World, count: usize) {
     let used = world.session.operations;
     for at in (0..count).map(|n| n * used / count) {
-        let taken = world.operations[at];
-        let origin = Origin {
-            job: IDLE_JOB,
-            ..entry::origin(taken)
-        };
-        world.operations[at] = entry::entry(entry::kind(taken), origin, entry::key(taken));
+        give_to_idle_job(&mut world.operations[at]);
     }
+}
+
+/// The same where each tile was replaced: all that changed a tile is of one job, so that the two
+/// entries of a tile go together.
+pub fn employ_on_replaced(world: &mut World, count: usize) {
+    let deletes = world
+        .operations
+        .iter()
+        .filter(|&&e| entry::kind(e) == DELETED);
+    let replaced: Vec<u32> = deletes.map(|&e| entry::key(e)).collect();
+    let tiles = count / 2;
+    let chosen = (0..tiles).map(|n| replaced[n * replaced.len() / tiles]);
+    let chosen: HashSet<u32> = chosen.collect();
+    let entries = world.operations.iter_mut();
+    for own in entries.filter(|e| chosen.contains(&entry::key(**e))) {
+        give_to_idle_job(own);
+    }
+}
+
+fn give_to_idle_job(own: &mut u64) {
+    let origin = Origin {
+        job: IDLE_JOB,
+        ..entry::origin(*own)
+    };
+    *own = entry::entry(entry::kind(*own), origin, entry::key(*own));
 }

@@ -22,11 +22,13 @@ const SMALL_HISTORIES: usize = 150;
 const CALLS_OF_A_HISTORY: usize = 160;
 const SPOILT_JOURNALS: usize = 200;
 const RECORDED_OPERATIONS: usize = 600;
+const ENTRIES_OF_A_JOB: [usize; 10] = [2, 16, 64, 94, 96, 98, 128, 256, 512, 1_024];
 
 /// Fails with the first difference, or if some reply never came up.
 pub fn compare_all() -> Result<Census, String> {
     let mut census = Census::default();
     compare_packs(&mut census)?;
+    compare_ends(&mut census)?;
     for rule in Rule::ALL {
         compare_small_histories(&mut census, rule)?;
         compare_recorded(&mut census, rule)?;
@@ -110,6 +112,20 @@ fn compare_checks(world: &mut World) -> Agreed {
         }
         None => Ok(()),
     }
+}
+
+/// Ends of jobs with few and with many entries on full tables: of a large job the proved call moves
+/// the tiles at once, and of a small one each by itself.
+fn compare_ends(census: &mut Census) -> Agreed {
+    for (rule, sort) in Sort::full() {
+        for entries in ENTRIES_OF_A_JOB {
+            for end in [Call::Commit(IDLE_JOB), Call::Abort(IDLE_JOB)] {
+                let mut pack = sort.employed_pack(rule, 9, entries);
+                compare_call(census, &mut pack, end)?;
+            }
+        }
+    }
+    Ok(())
 }
 
 /// Full and small tables, sound and damaged: the check, starts and a few calls.

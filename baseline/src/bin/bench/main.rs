@@ -3,6 +3,7 @@
 
 mod agreement;
 mod census;
+mod ends;
 mod proved;
 mod scenes;
 mod table;
@@ -30,7 +31,10 @@ fn main() -> ExitCode {
     println!("{}", census.shares());
     if !only_agree {
         let rows = scenes::time_all();
-        table::print(&rows);
+        let ends = ends::time_ends();
+        table::print(rows.iter().chain(ends::calls(&ends)));
+        ends::print_parts(&ends);
+        ends::print_undoing();
         table::print_cost_of_replacing(&rows);
         table::print_cost_of_rectangles(&rows);
     }

@@ -7,7 +7,7 @@ use baseline::rectangle::Change;
 use baseline::rule::Rule;
 use baseline::workload::histories::{recorded, Recorded};
 use baseline::workload::journals::{write_full, Load, Written};
-use baseline::workload::packs::{employ_idle_job, Sort, CLOSED_JOB, IDLE_JOB};
+use baseline::workload::packs::{Sort, CLOSED_JOB, IDLE_JOB};
 use baseline::workload::random::Random;
 use baseline::workload::rectangles::roomy_pack;
 use baseline::workload::world::{Call, World};
@@ -18,16 +18,15 @@ const LIST_ROUNDS: usize = 15;
 const CALL_ROUNDS: usize = 25;
 const REPLAY_ROUNDS: usize = 40;
 const RECORDED_OPERATIONS: usize = 1_500;
-const ENTRIES: [usize; 4] = [16, 64, 256, 1_024];
 
 /// One repeated table teaches the branch predictor; so many different ones do not.
-const PACKS: u64 = 16;
+pub const PACKS: u64 = 16;
 
 pub fn time_all() -> Vec<Row> {
     let checks = Sort::all().map(|(rule, sort)| time_check(rule, sort));
     let mut rows: Vec<Row> = checks.collect();
     rows.extend(Rule::ALL.map(time_recorded));
-    rows.extend(time_calls());
+    rows.push(time_open());
     for (rule, change) in rectangles() {
         rows.extend(time_rectangle(rule, change));
     }
@@ -39,7 +38,7 @@ pub fn time_all() -> Vec<Row> {
     rows
 }
 
-fn named(rule: Rule, call: &str, on: &str) -> String {
+pub fn named(rule: Rule, call: &str, on: &str) -> String {
     match rule {
         Rule::Alone => format!("{call}: {on}"),
         Rule::Together => format!("{call}, rule 2: {on}"),
@@ -73,7 +72,7 @@ fn best_of(
 }
 
 /// How long something took.
-fn timed(run: impl FnOnce()) -> Duration {
+pub fn timed(run: impl FnOnce()) -> Duration {
     let begin = Instant::now();
     run();
     begin.elapsed()
@@ -120,39 +119,30 @@ fn time_list(way: Way, recorded: &Recorded) -> Vec<Duration> {
     spent
 }
 
-fn time_calls() -> Vec<Row> {
-    let (alone, together) = (Rule::Alone, Rule::Together);
-    let (commit, abort) = (Call::Commit(IDLE_JOB), Call::Abort(IDLE_JOB));
+fn time_open() -> Row {
+    let packs = (0..PACKS).map(|seed| Sort::Mixed.pack(Rule::Alone, seed));
     let open = Call::Open(CLOSED_JOB);
-    let mut rows = vec![time_call("open", open, alone, Sort::Mixed, 0)];
-    for (name, call) in [("commit", commit), ("abort", abort)] {
-        rows.extend(ENTRIES.map(|entries| time_call(name, call, alone, Sort::Mixed, entries)));
-    }
-    let all = |sort| time_call("abort", abort, together, sort, 1_024);
-    rows.extend(Sort::OF_TOGETHER.map(all));
-    rows
-}
-
-/// One call on full tables of which the idle job has so many entries.
-fn time_call(name: &str, call: Call, rule: Rule, sort: Sort, entries: usize) -> Row {
-    let pack = |seed| {
-        let mut pack = sort.pack(rule, seed);
-        employ_idle_job(&mut pack, entries);
-        (pack, call)
-    };
-    let on = match rule {
-        Rule::Alone => format!("{entries} entries"),
-        Rule::Together => format!("{entries}, {}", sort.name()),
-    };
-    time_each(named(rule, name, &on), (0..PACKS).map(pack).collect())
+    let scenes: Vec<(World, Call)> = packs.map(|pack| (pack, open)).collect();
+    time_calls(named(Rule::Alone, "open", Sort::Mixed.name()), &scenes)
 }
 
 /// Calls that are accepted, each on tables of its own.
-fn time_each(name: String, scenes: Vec<(World, Call)>) -> Row {
+pub fn time_calls(name: String, scenes: &[(World, Call)]) -> Row {
+    time_each(name, scenes, |way, world, call| {
+        assert_eq!(way.call(world, call)[0], 0)
+    })
+}
+
+/// Something done on tables of its own, each time on a fresh copy of them.
+pub fn time_each<T: Copy>(
+    name: String,
+    scenes: &[(World, T)],
+    run: impl Fn(Way, &mut World, T),
+) -> Row {
     best_of(name, CALL_ROUNDS, scenes.len(), |way| {
-        let time_one = |(pack, call): &(World, Call)| {
+        let time_one = |(pack, with): &(World, T)| {
             let mut world = pack.clone();
-            timed(|| assert_eq!(way.call(&mut world, *call)[0], 0))
+            timed(|| run(way, &mut world, *with))
         };
         scenes.iter().map(time_one).collect()
     })
@@ -174,7 +164,7 @@ fn time_rectangle(rule: Rule, change: Change) -> [Row; 2] {
     let scenes: Vec<(World, Call)> = (0..PACKS).map(scene).collect();
     let packs = scenes.iter().map(|(pack, _)| pack.clone()).collect();
     let [check, rectangle] = rectangle_names(rule, change);
-    [time_check_of(check, packs), time_each(rectangle, scenes)]
+    [time_check_of(check, packs), time_calls(rectangle, &scenes)]
 }
 
 pub fn rectangle_names(rule: Rule, change: Change) -> [String; 2] {

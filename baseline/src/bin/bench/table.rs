@@ -12,7 +12,7 @@ pub struct Row {
 }
 
 impl Row {
-    fn of(&self, way: Way) -> f64 {
+    pub fn of(&self, way: Way) -> f64 {
         let times = WAYS.iter().zip(self.microseconds);
         let own = times.filter(|(other, _)| **other == way);
         own.map(|(_, time)| time).sum()
@@ -24,7 +24,7 @@ impl Row {
     }
 }
 
-pub fn print(rows: &[Row]) {
+pub fn print<'a>(rows: impl Iterator<Item = &'a Row>) {
     print!("{:60}", "microseconds a call, best round");
     for way in WAYS {
         print!("{:>10}", way.name());
