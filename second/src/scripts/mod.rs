@@ -2,13 +2,16 @@
 
 mod addresses;
 mod bad_lines;
+mod blocks;
 mod breaking;
 mod calls;
 mod counting;
 mod damage;
+mod deeds;
 mod episodes;
 mod filling;
 mod keeping;
+mod large_ends;
 mod long_lines;
 mod mending;
 mod nowhere;
@@ -26,13 +29,14 @@ mod wrong_tiles;
 
 use writer::Writer;
 
-/// Every so many seeds a script fills the largest tables, call by call or by rectangles, has lines
-/// of more than a mebibyte, or has so many lines that they are more together.
+/// Every so many seeds a script fills the largest tables, call by call or by rectangles, ends jobs of
+/// every size, has lines of more than a mebibyte, or has so many lines that they are more together.
 const SEEDS_ROUND: u64 = 32;
 const FILLING_SEED: u64 = 5;
 const LONG_LINES_SEED: u64 = 11;
 const MANY_LINES_SEED: u64 = 17;
 const SWEEPING_SEED: u64 = 21;
+const LARGE_ENDS_SEED: u64 = 27;
 
 pub const MEBIBYTE: usize = 1_048_576;
 
@@ -42,6 +46,7 @@ pub fn script(seed: u64, lines: usize) -> Vec<u8> {
     match seed % SEEDS_ROUND {
         FILLING_SEED => filling::fill_largest_tables(&mut writer),
         SWEEPING_SEED => write_sweeps(&mut writer),
+        LARGE_ENDS_SEED => write_large_ends(&mut writer),
         LONG_LINES_SEED => write_long_lines(&mut writer, lines),
         MANY_LINES_SEED => write_many_lines(&mut writer),
         _ => write_episodes(&mut writer, lines),
@@ -65,6 +70,14 @@ fn write_sweeps(writer: &mut Writer) {
     filling::fill_smallest_journal(writer);
     keeping::move_every_level(writer);
     keeping::make_every_count_wrong(writer);
+}
+
+/// Every size comes in every round; behind them chance finds others.
+fn write_large_ends(writer: &mut Writer) {
+    large_ends::end_every_size(writer);
+    for _ in 0..8 {
+        large_ends::end_any_size(writer);
+    }
 }
 
 /// Behind each very long line the others are answered as before.

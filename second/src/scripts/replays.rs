@@ -9,7 +9,7 @@ use crate::scripts::mending;
 use crate::scripts::writer::Writer;
 
 /// Replays or mends so many bytes onto the tile table with this count.
-fn replay_or_mend(writer: &mut Writer, count: usize, length: usize) {
+pub fn replay_or_mend(writer: &mut Writer, count: usize, length: usize) {
     if writer.random.one_in(2) {
         writer.tell(format!("replay {} {}", count, length));
     } else {
