@@ -4,8 +4,8 @@ use crate::console::Console;
 use crate::journal::rule_of_journal;
 use crate::journals::journal;
 use crate::line::{parse, Call, Command};
-use crate::occasions::{call_on_session, occasions, occasions_of_counts, Before};
-use crate::occasions::{occasions_printed, occasions_told};
+use crate::occasions::{call_on_session, occasions, occasions_of_counts, occasions_of_ends};
+use crate::occasions::{occasions_printed, occasions_told, Before};
 use crate::printed::printed_replay;
 use crate::rule::Rule;
 use crate::scripts::script;
@@ -93,8 +93,9 @@ fn count_command(counts: &mut Counts, console: &mut Console, command: Command, l
     let number = number_of(&answer);
     let told = number.map(|number| occasions_told(command, number));
     let of_counts = occasions_of_counts(&before, console, command, number);
-    for name in told.unwrap_or_default().iter().chain(&of_counts) {
-        count(counts, name_of_occasion(name));
+    let of_ends = occasions_of_ends(&before, console, command, number);
+    for name in [told.unwrap_or_default(), of_counts, of_ends].concat() {
+        count(counts, name_of_occasion(&name));
     }
     let sort = sort_of(&answer);
     count(counts, name_of(&group, &sort));

@@ -3,10 +3,9 @@
 
 use crate::console::Console;
 use crate::line::Command;
-use crate::occasions::named::{applying, name_by_rule, names_of, Named};
+use crate::occasions::before::Before;
+use crate::occasions::named::{ByRule, Named};
 use crate::occasions::places::{call_on_session, ABORT, COMMIT, OPERATION, RECTANGLE};
-use crate::rule::{Rule, RULES};
-use crate::session::{length_of, Session};
 use crate::soundness::{key_of, kind_of};
 use crate::tile::ZOOMS;
 
@@ -78,30 +77,13 @@ const BY_RULE_2: [Named<Move>; 9] = [
     }),
 ];
 
+const WAYS: ByRule<Move> = ByRule {
+    both: &BY_BOTH,
+    rule_2: &BY_RULE_2,
+};
+
 /// The calls that move tiles.
 const MOVERS: [&str; 3] = [OPERATION, RECTANGLE, ABORT];
-
-/// A session with its entries, before a call.
-pub struct Before {
-    session: Session,
-    entries: Vec<u64>,
-}
-
-impl Before {
-    pub fn of(console: &Console) -> Before {
-        let session = console.session.clone();
-        let used = length_of(session.operations);
-        let entries = console.tables.operations.iter().take(used);
-        Before {
-            session,
-            entries: entries.copied().collect(),
-        }
-    }
-
-    pub fn session(&self) -> &Session {
-        &self.session
-    }
-}
 
 /// What a call that was done changed.
 struct Move {
@@ -172,15 +154,10 @@ pub fn done(before: &Before, console: &Console, command: Command) -> Vec<String>
     let of_levels: Vec<String> = moved
         .map(|(zoom, rise)| name_of_level(zoom, rise > 0, call))
         .collect();
-    let ways = match rule {
-        Rule::EachAlone => applying(&BY_BOTH, Some(step)),
-        Rule::JobAsOne => {
-            let named = [&BY_BOTH[..], &BY_RULE_2].concat();
-            applying(&named, Some(step))
-        }
-    };
-    let of_spoken = ways.into_iter().map(|name| name_by_rule(rule, name));
-    of_levels.into_iter().chain(of_spoken).collect()
+    of_levels
+        .into_iter()
+        .chain(WAYS.applying(rule, step))
+        .collect()
 }
 
 fn name_of_level(zoom: u8, up: bool, call: &str) -> String {
@@ -189,12 +166,7 @@ fn name_of_level(zoom: u8, up: bool, call: &str) -> String {
 }
 
 pub fn all_names() -> Vec<String> {
-    let mut names: Vec<String> = names_of(&BY_RULE_2)
-        .map(|name| name_by_rule(Rule::JobAsOne, name))
-        .collect();
-    for rule in RULES {
-        names.extend(names_of(&BY_BOTH).map(|name| name_by_rule(rule, name)));
-    }
+    let mut names = WAYS.all_names();
     for zoom in ZOOMS {
         let ways = MOVERS
             .into_iter()

@@ -2,10 +2,12 @@
 //! is obeyed, and about the place that it names once it is answered. The census counts them, so
 //! that none is left out.
 
+mod before;
 mod editions;
 mod forms;
 mod handled_counts;
 mod kept_counts;
+mod large_ends;
 mod listed;
 mod mending;
 mod named;
@@ -23,7 +25,7 @@ use listed::{listed, Listed};
 use named::{applying, name_of_call, names_of};
 use places::{place_of, OPERATION, RECTANGLE};
 
-pub use kept_counts::Before;
+pub use before::Before;
 pub use places::call_on_session;
 
 /// The occasions that a command is, on the console as it stands.
@@ -72,7 +74,7 @@ pub fn occasions_of_counts(
     command: Command,
     number: Option<u8>,
 ) -> Vec<String> {
-    let handled = handled_counts::known(before.session(), console, command, number);
+    let handled = handled_counts::known(&before.session, console, command, number);
     let names = applying(&handled_counts::NAMED, handled).into_iter();
     let of_call = match number {
         Some(0) => kept_counts::done(before, console, command),
@@ -80,6 +82,19 @@ pub fn occasions_of_counts(
         _ => Vec::new(),
     };
     names.map(str::to_string).chain(of_call).collect()
+}
+
+/// The occasions that a command is as the end of a job, by what it left where it was done.
+pub fn occasions_of_ends(
+    before: &Before,
+    console: &Console,
+    command: Command,
+    number: Option<u8>,
+) -> Vec<String> {
+    match number {
+        Some(0) => large_ends::done(before, console, command),
+        Some(_) | None => Vec::new(),
+    }
 }
 
 pub fn all_names() -> impl Iterator<Item = String> {
@@ -97,5 +112,6 @@ pub fn all_names() -> impl Iterator<Item = String> {
         .chain(editions::all_names())
         .chain(forms::all_names())
         .chain(kept_counts::all_names())
+        .chain(large_ends::all_names())
         .chain(wrong_counts::all_names())
 }

@@ -1,6 +1,6 @@
 //! Occasions by name.
 
-use crate::rule::Rule;
+use crate::rule::{Rule, RULES};
 
 /// A name for an occasion, and whether it is one, by what there is to know about a command.
 pub type Named<T> = (&'static str, fn(&T) -> bool);
@@ -27,4 +27,33 @@ pub fn applying<T>(named: &[Named<T>], known: Option<T>) -> Vec<&'static str> {
     };
     let applying = named.iter().filter(|(_, applies)| applies(&known));
     applying.map(|(name, _)| *name).collect()
+}
+
+/// Occasions of both rules, and those that there are only by rule 2.
+pub struct ByRule<T: 'static> {
+    pub both: &'static [Named<T>],
+    pub rule_2: &'static [Named<T>],
+}
+
+impl<T> ByRule<T> {
+    fn of_rule(&self, rule: Rule) -> Vec<Named<T>> {
+        match rule {
+            Rule::EachAlone => self.both.to_vec(),
+            Rule::JobAsOne => [self.both, self.rule_2].concat(),
+        }
+    }
+
+    /// The names that apply, with the rule.
+    pub fn applying(&self, rule: Rule, known: T) -> Vec<String> {
+        let names = applying(&self.of_rule(rule), Some(known)).into_iter();
+        names.map(|name| name_by_rule(rule, name)).collect()
+    }
+
+    pub fn all_names(&self) -> Vec<String> {
+        let of_rule = |rule| {
+            let named = self.of_rule(rule).into_iter();
+            named.map(move |(name, _)| name_by_rule(rule, name))
+        };
+        RULES.into_iter().flat_map(of_rule).collect()
+    }
 }
