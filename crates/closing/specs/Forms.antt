@@ -1,7 +1,7 @@
 -- What the end of a job leaves in the tables of a sound world, in the numbers that the code moves
-use mathlib.Core.Bool.{Bool, cond, false, true}
+use mathlib.Core.Bool.{Bool, false}
 use mathlib.Core.List.{List, [], _∷_, map}
-use mathlib.Core.Path.{_∙_, _≡_, ap, ap₂, refl, sym}
+use mathlib.Core.Path.{_∙_, _≡_, ap, ap₂, sym}
 use Prim.Native.Nat.{_+_, _-_, ℕ}
 use native.Mathlib.Omega.{arith}
 use lib.Dec.{eqb}
@@ -11,11 +11,9 @@ use Rattle.lists.specs.Truth.{by-cond}
 use Rattle.strict.specs.Book.{others, recover, spokenBy, spokenOf}
 use Rattle.strict.specs.Histories.{abort, commit, mine}
 use Rattle.strict.specs.Laws.Released.{spoken-abort, spoken-commit}
-use Rattle.strict.specs.Operations.{apply, clear, put, skip, undo}
-use Rattle.strict.specs.Tiles.{delete, insertTile}
 use Rattle.service.specs.Admission.{perform}
 use Rattle.service.specs.Calls.{withState}
-use Rattle.service.specs.Entry.{entryOf, jobIn, keyIn, kindIn, opIn}
+use Rattle.service.specs.Entry.{entryOf, jobIn, opIn}
 use Rattle.service.specs.Laws.Entries.{entries-back}
 use Rattle.service.specs.Levels.{levelsOf}
 use Rattle.service.specs.Sound.{Entry, Tabled}
@@ -23,12 +21,14 @@ use Rattle.service.specs.World.{World, state, usedOperations, usedTiles, world}
 use Rattle.service.specs.declared.Session.{Session}
 use Rattle.levels.specs.Tally.{tallyOf}
 use Rattle.levels.specs.declared.Tally.{Tally}
-use Rattle.entries.specs.Laws.{decoded, others-without}
+use Rattle.entries.specs.Laws.{others-without}
 use Rattle.entries.specs.Table.{withoutJob}
 use Rattle.admission.specs.Laws.{tiles-count}
 use Rattle.engine.specs.Counting.{withTally}
 use Rattle.engine.specs.Forms.{same-tiles, sound-book}
-use Rattle.closing.specs.Ending.{closed, recovered, recoveredJob}
+use Rattle.restoring.specs.Laws.{recover-entries}
+use Rattle.restoring.specs.Recovery.{recoveredJob}
+use Rattle.closing.specs.Ending.{closed}
 
 -- ENTRIES
 entries-without : (marks : List Bool) (job : ℕ) (es : List ℕ) → All (Entry marks) es → All (Entry marks) (withoutJob job es)
@@ -36,21 +36,6 @@ entries-without marks job [] h = tt
 entries-without marks job (e ∷ es) h =
     let ih = entries-without marks job es (h .1) in
     by-cond (All (Entry marks)) (eqb job (jobIn e)) (λ _. ih) (λ _. (h .0, ih))
-
--- RECOVERIES
-undo-entry : (e : ℕ) (t : List ℕ) → undo (opIn e) t ≡ recovered e t
-undo-entry e t = rw (decoded (kindIn e) .recovers) (go (eqb (kindIn e) 1) (eqb (kindIn e) 3))
-  where
-    go : (a b : Bool) → apply (cond a clear (cond b put skip)) (keyIn e) t ≡ cond a (delete (keyIn e) t) (cond b (insertTile (keyIn e) t) t)
-    go true b = refl
-    go false true = refl
-    go false false = refl
-
-pub recover-entries : (job : ℕ) (es t : List ℕ) → recover job (map opIn es) t ≡ recoveredJob job es t
-recover-entries job [] t = refl
-recover-entries job (e ∷ es) t =
-    ap (λ x. cond (eqb job (jobIn e)) (undo (opIn e) x) x) (recover-entries job es t)
-    ∙ ap (λ x. cond (eqb job (jobIn e)) x (recoveredJob job es t)) (undo-entry e (recoveredJob job es t))
 
 -- THE FORMS
 module _ (w : World) (o : Tabled w) (job : ℕ) where

@@ -2,10 +2,10 @@
 ghost use mathlib.Core.Bool.{true};
 ghost use mathlib.Core.List.{[], map};
 ghost use mathlib.Core.Path.{_≡_};
-ghost use Prim.Native.Nat.{_+_, _≤_};
+ghost use Prim.Native.Nat.{_≤_};
 ghost use lib.ListN.{length, take};
-ghost use Rattle.lists.specs.Lists.{All, padded};
-ghost use Rattle.strict.specs.Book.{counted, others, spokenBy};
+ghost use Rattle.lists.specs.Lists.{padded};
+ghost use Rattle.strict.specs.Book.{others, spokenBy};
 ghost use Rattle.strict.specs.Histories.{abort, commit};
 ghost use Rattle.strict.specs.Operations as report;
 ghost use Rattle.service.specs.Admission.{perform};
@@ -19,12 +19,17 @@ ghost use Rattle.tiles.specs.Table.{spotOf};
 ghost use Rattle.levels.specs.Tally.{tallyOf};
 ghost use Rattle.entries.specs.Table.{EntryTable, withoutJob};
 ghost use Rattle.engine.specs.Events.{Ready};
-ghost use Rattle.closing.specs.Ending.{Tallied, closed, recovered, recoveredJob};
+ghost use Rattle.restoring.specs.Recovery.{Tallied, Undoable, recovered, recoveredJob};
+ghost use Rattle.closing.specs.Ending.{closed};
 use layout::Whose;
 use levels::Tally;
 use service::Session;
 use strict::Procedure;
 use tiles::Spot;
+
+// So many entries of a job are restored at once. Fewer are undone faster one after another: notes ask for two arrays and for two passes over the tiles,
+// however few entries there are.
+const MANY: usize = 96;
 
 // The effect of a procedure on the tiles, with what is counted after it.
 fn affect_counting(tiles: &mut [u32], tally: Tally, procedure: Procedure, spot: Spot) -> Tally
@@ -58,10 +63,9 @@ fn recover(tiles: &mut [u32], tally: Tally, e: u64) -> Tally
     tally
 }
 
-// Runs the recoveries of a job's entries, newest first. Answers what is counted of the tiles after them.
-fn undo(tiles: &mut [u32], tally: Tally, operations: &[u64], used: usize, job: u8) -> Tally
-    requires { ⌜ Tallied (now tiles) tally × (used ≤ length (now operations)) × All (λ e. isKey (keyIn e) ≡ true) (take used (now operations))
-        × (length (take (tally .tiles) (now tiles)) + counted (take (tally .tiles) (now tiles)) (map opIn (take used (now operations))) ≤ length (now tiles)) ⌝ }
+// Runs the recoveries of a job's entries, newest first, one after another. Answers what is counted of the tiles after them.
+fn undo_each(tiles: &mut [u32], tally: Tally, operations: &[u64], used: usize, job: u8) -> Tally
+    requires { ⌜ Undoable (now tiles) tally (now operations) used ⌝ }
     ensures { λ r. ⌜ (r ≡ tallyOf (recoveredJob job (take used (now (operations .entry))) (take (tally .tiles) (now (tiles .entry)))))
         × (now (tiles .exit) ≡ padded (length (now (tiles .entry))) (recoveredJob job (take used (now (operations .entry))) (take (tally .tiles) (now (tiles .entry))))) ⌝ }
 {
@@ -75,6 +79,36 @@ fn undo(tiles: &mut [u32], tally: Tally, operations: &[u64], used: usize, job: u
         }
     }
     left
+}
+
+// Whether a job has so many entries that its tiles are restored at once.
+fn has_many(operations: &[u64], used: usize, job: u8) -> bool
+    requires { ⌜ used ≤ length (now operations) ⌝ }
+{
+    let mut left = MANY;
+    let mut i: usize = 0;
+    while i < used {
+        if layout::job_in(operations[i]) == job {
+            left -= 1;
+            if left == 0 {
+                return true;
+            }
+        }
+        i += 1;
+    }
+    false
+}
+
+// Runs the recoveries of a job's entries, newest first: one after another where they are few, and else all at once.
+fn undo(tiles: &mut [u32], tally: Tally, operations: &[u64], used: usize, job: u8) -> Tally
+    requires { ⌜ Undoable (now tiles) tally (now operations) used ⌝ }
+    ensures { λ r. ⌜ (r ≡ tallyOf (recoveredJob job (take used (now (operations .entry))) (take (tally .tiles) (now (tiles .entry)))))
+        × (now (tiles .exit) ≡ padded (length (now (tiles .entry))) (recoveredJob job (take used (now (operations .entry))) (take (tally .tiles) (now (tiles .entry))))) ⌝ }
+{
+    if has_many(operations, used, job) {
+        return restoring::restore(tiles, tally, operations, used, job);
+    }
+    undo_each(tiles, tally, operations, used, job)
 }
 
 // The places spoken for without what a job's deletes speak for.

@@ -6,15 +6,13 @@ use Prim.Native.Nat.{_+_, _-_, _<_, _≤_, ℕ}
 use native.Mathlib.Numerals.{add-one}
 use native.Mathlib.Omega.{arith}
 use lib.Dec.{ltb}
-use lib.ListN.{drop, drop-of-length-le, getD, length, length-set, replicate, replicate-append-replicate, set, take}
+use lib.ListN.{drop, drop-of-length-le, getD, length, length-set, set, take}
 use lib.Seq.{append-snoc, drop-cons, drop-drop, drop-set-lt, length-take-le, slice, take-suc-set}
 use borrow.Author.Tests.{eq-eqb, ltb-false, ltb-true, ne-eqb}
-use Rattle.lists.specs.Lists.{padded, slice-end, slice-next}
+use Rattle.lists.specs.Lists.{slice-end, slice-next}
 use Rattle.strict.specs.Laws.Members.{above-less}
 use Rattle.strict.specs.Operations.{clear}
 use Rattle.strict.specs.Tiles.{Above, Ascending, delete}
-use Rattle.search.specs.Laws.{rest-zeros}
-use Rattle.search.specs.Table.{TileTable}
 use Rattle.runs.specs.Runs.{Kept, Met, applyAll}
 use Rattle.runs.specs.declared.Meets.the-variants.{Apart, Below, Own}
 use Rattle.runs.proofs.Ascents.{ascending-drop, behind}
@@ -56,7 +54,7 @@ module _ {ks t₀ : List ℕ} {count : ℕ} (fits : count ≤ length t₀) where
   starts = record { left-fits = omega arith; within = omega arith; keys-fit = omega arith; same-length = refl; same-ahead = refl; whole = refl }
 
   module _ (ascends : Ascending ks) (ordered : Ascending (take count t₀)) {t : List ℕ} {i at left : ℕ} (k : Keeping ks t₀ count t i at left) where
-    pub ends : count ≤ i → Kept ks t₀ count t left
+    pub ends : count ≤ i → Kept (applyAll clear ks (take count t₀)) t₀ count t left
     ends over =
         let done : i ≡ count = let w = k .within in omega arith in
         let none : applyAll clear (drop at ks) (slice i count t₀) ≡ [] = ap (applyAll clear (drop at ks)) (slice-end t₀ count i over) ∙ clear-none (drop at ks) in
@@ -66,7 +64,7 @@ module _ {ks t₀ : List ℕ} {count : ℕ} (fits : count ≤ length t₀) where
         record {
           left-fits = omega arith;
           counted = sym (length-take-le left t (omega arith)) ∙ ap length all;
-          kept = all;
+          in-front = all;
           same-behind = rw done at (k .same-ahead);
         }
 
@@ -140,13 +138,3 @@ module _ {ks t₀ : List ℕ} {count : ℕ} (fits : count ≤ length t₀) where
             same-ahead = drop-set-lt (i + 1) t left tile (omega arith) ∙ next-ahead;
             whole = ap (λ f. f ++ rest) more ∙ append-snoc (take left t) tile rest ∙ ap (λ r. take left t ++ r) (sym first) ∙ k .whole;
           }
-
--- with the places behind them cleared
-pub wiped : {ks t₀ t : List ℕ} {count left : ℕ} → TileTable t₀ count → Kept ks t₀ count t left
-    → take left t ++ (replicate (count - left) 0 ++ drop count t) ≡ padded (length t₀) (applyAll clear ks (take count t₀))
-wiped {ks} {t₀} {t} {count} {left} table k =
-    let fits = table .fits in
-    let less = k .left-fits in
-    let is = k .counted in
-    let zeros : count - left + (length t₀ - count) ≡ length t₀ - length (applyAll clear ks (take count t₀)) = omega arith in
-    rw (k .kept, k .same-behind, rest-zeros table, replicate-append-replicate {A = ℕ} (count - left) (length t₀ - count) 0, zeros)

@@ -1,18 +1,18 @@
 -- The place of a key in an ascending list, known by the tile there and the one before it
-use mathlib.Core.Bool.{Bool, false, true}
+use mathlib.Core.Bool.{false}
 use mathlib.Core.List.{List, [], _∷_}
 use mathlib.Core.Path.{_∙_, _≡_, ap, refl, sym}
 use Prim.Native.Nat.{_-_, _<_, _≤_, suc, zero, ℕ}
 use native.Mathlib.Omega.{arith}
-use lib.Dec.{eqb, ltb}
+use lib.Dec.{eqb}
 use lib.ListN.{getD, length, take}
 use lib.Seq.{getD-take}
-use borrow.Author.Tests.{eq-eqb, le-ltb, lt-ltb, ltb-false, ltb-true, ne-eqb}
-use Rattle.lists.specs.Truth.{Same, other, same, same?}
-use Rattle.strict.specs.Laws.Members.{above-ascending, above-less, not-own}
+use borrow.Author.Tests.{le-ltb, lt-ltb}
+use Rattle.strict.specs.Laws.Members.{above-ascending, above-less}
 use Rattle.strict.specs.Tiles.{Above, Ascending, member}
 use Rattle.search.specs.Laws.{used-length}
 use Rattle.search.specs.Table.{TileTable, positionOf}
+use Rattle.runs.specs.Laws.{past-all, there-at}
 
 above-at : (n i : ℕ) (s : List ℕ) → Above n s → i < length s → n < getD s i 0
 above-at n i [] a l = absurd (omega arith)
@@ -33,28 +33,6 @@ place-is k (x ∷ s) (suc at) asc l before there =
         let a = above-at x at s asc (omega arith) in
         let b : getD s at 0 < k = before (suc at) refl in
         omega arith
-
--- whether the key is there
-there-at : (k : ℕ) (s : List ℕ) → Ascending s → positionOf k s < length s → eqb (getD s (positionOf k s) 0) k ≡ member k s
-there-at k [] asc l = absurd (omega arith)
-there-at k (x ∷ s) asc l = go (ltb x k) refl (same? k x) (there-at k s (above-ascending x s asc))
-  where
-    go : (b : Bool) → ltb x k ≡ b → Same k x → (positionOf k s < length s → eqb (getD s (positionOf k s) 0) k ≡ member k s)
-        → eqb (getD (x ∷ s) (positionOf k (x ∷ s)) 0) k ≡ member k (x ∷ s)
-    go true e q ih =
-        let h = ltb-true x k e in
-        let rest = rw e at l in
-        rw (e, ne-eqb k x (λ e. omega arith)) (ih (omega arith))
-    go false e (same p t) ih = rw (e, t) (eq-eqb x k (sym p))
-    go false e (other p t) ih = let h = ltb-false x k e in rw (e, not-own k (x ∷ s) (omega arith, asc)) (ne-eqb x k (λ q. p (sym q)))
-
-past-all : (k : ℕ) (s : List ℕ) → Ascending s → length s ≤ positionOf k s → false ≡ member k s
-past-all k [] asc l = refl
-past-all k (x ∷ s) asc l = go (ltb x k) refl (past-all k s (above-ascending x s asc))
-  where
-    go : (b : Bool) → ltb x k ≡ b → (length s ≤ positionOf k s → false ≡ member k s) → false ≡ member k (x ∷ s)
-    go true e ih = let h = ltb-true x k e in let rest = rw e at l in rw (ne-eqb k x (λ e. omega arith)) (ih (omega arith))
-    go false e ih = let rest = rw e at l in absurd (omega arith)
 
 -- in a table
 module _ {l : List ℕ} {count : ℕ} (k : ℕ) (t : TileTable l count) (at : ℕ) where

@@ -3,7 +3,7 @@ use mathlib.Core.List.{List, [], _++_, _∷_}
 use mathlib.Core.Path.{_≡_}
 use Prim.Native.Nat.{_+_, _-_, _<_, _≤_, ℕ}
 use lib.ListN.{drop, getD, length, take}
-use Rattle.strict.specs.Operations.{Step, apply, clear, put}
+use Rattle.strict.specs.Operations.{Step, apply, put}
 use Rattle.strict.specs.Tiles.{Ascending}
 use Rattle.runs.specs.declared.Last.{Last}
 use Rattle.runs.specs.declared.Meets.the-variants.{Apart, Below, Own}
@@ -33,9 +33,9 @@ Met ks at x Below = (at < length ks) × (getD ks at 0 < x)
 Met ks at x Own = (at < length ks) × (getD ks at 0 ≡ x)
 Met ks at x Apart = at < length ks → x < getD ks at 0
 
--- in front of t' stand those of the first `count` of t that are not in ks, and behind `count` nothing has moved
-pub record Kept (ks t : List ℕ) (count : ℕ) (t' : List ℕ) (left : ℕ) : Type 0 where
+-- `left` tiles are kept, in front of t', and behind `count` nothing has moved
+pub record Kept (kept t : List ℕ) (count : ℕ) (t' : List ℕ) (left : ℕ) : Type 0 where
   pub left-fits : left ≤ count
-  pub counted : left ≡ length (applyAll clear ks (take count t))
-  pub kept : take left t' ≡ applyAll clear ks (take count t)
+  pub counted : left ≡ length kept
+  pub in-front : take left t' ≡ kept
   pub same-behind : drop count t' ≡ drop count t

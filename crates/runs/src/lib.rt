@@ -177,7 +177,7 @@ fn meeting(keys: &[u32], at: usize, tile: u32) -> Meets
 // Moves the tiles that are not in the run to the front, and answers how many they are.
 fn keep_others(tiles: &mut [u32], count: usize, keys: &[u32]) -> usize
     requires { ⌜ TileTable (now tiles) count × Ascending (now keys) ⌝ }
-    ensures { λ r. ⌜ Kept (now (keys .entry)) (now (tiles .entry)) count (now (tiles .exit)) r ⌝ }
+    ensures { λ r. ⌜ Kept (applyAll report.clear (now (keys .entry)) (take count (now (tiles .entry)))) (now (tiles .entry)) count (now (tiles .exit)) r ⌝ }
 {
     let mut i: usize = 0;
     let mut at: usize = 0;
@@ -203,7 +203,7 @@ fn keep_others(tiles: &mut [u32], count: usize, keys: &[u32]) -> usize
 }
 
 // Sets the places from `from` to `to` to 0.
-fn wipe(tiles: &mut [u32], from: usize, to: usize)
+pub fn wipe(tiles: &mut [u32], from: usize, to: usize)
     requires { ⌜ (from ≤ to) × (to ≤ length (now tiles)) ⌝ }
     ensures { λ _. ⌜ now (tiles .exit) ≡ take from (now (tiles .entry)) ++ (replicate (to - from) 0 ++ drop to (now (tiles .entry))) ⌝ }
 {

@@ -3,6 +3,7 @@ use mathlib.Core.Bool.{Bool, true}
 use mathlib.Core.List.{List, [], _∷_}
 use mathlib.Core.Path.{_∙_, _≡_, ap}
 use Prim.Native.Nat.{ℕ}
+use native.Mathlib.Omega.{arith}
 use lib.ListN.{length, take}
 use borrow.Author.Needs.{needs}
 use denote.Ref.{now}
@@ -10,9 +11,11 @@ use Rattle.lists.specs.Lists.{All}
 use Rattle.admission.specs.Laws.{entry-table, room-there}
 use Rattle.entries.specs.Table.{withoutJob}
 use Rattle.service.specs.Entry.{keyIn}
-use Rattle.service.specs.Sound.{Entry}
+use Rattle.service.specs.Sound.{Entry, Tabled}
 use Rattle.service.specs.Tile.{isKey}
-use Rattle.service.specs.World.{World, world}
+use Rattle.service.specs.World.{World, usedOperations, world}
+use Rattle.engine.specs.Counting.{tallyIn}
+use Rattle.restoring.specs.Recovery.{Undoable}
 use Rattle.closing.proofs.Laws.{tallied}
 use Rattle.closing.proofs.abort_job.Statement.{statement}
 use Rattle.closing.proofs.abort_job.Tie as tie
@@ -23,10 +26,20 @@ use Rattle.closing.specs.Forms.{aborted}
 abbrev given : tie.Start → World
 given c = world (c .args .session) (now (c .args .tiles)) (now (c .args .operations)) []
 
--- every entry has a valid key
-valid-keys : (marks : List Bool) (es : List ℕ) → All (Entry marks) es → All (λ e. isKey (keyIn e) ≡ true) es
-valid-keys marks [] h = tt
-valid-keys marks (e ∷ es) h = (h .0 .key-valid, valid-keys marks es (h .1))
+-- the recoveries can run
+undoable : (w : World) → Tabled w → Undoable (w .tiles) (tallyIn (w .session)) (w .operations) (w .session .operations)
+undoable w o =
+    record {
+      tallied = tallied w o;
+      inside = o .operations-fit;
+      few = let fit = o .operations-fit in let few = o .few-operations in omega arith;
+      keys = valid-keys (w .session .marks) (usedOperations w) (o .entries);
+      room = room-there w o;
+    }
+  where
+    valid-keys : (marks : List Bool) (es : List ℕ) → All (Entry marks) es → All (λ e. isKey (keyIn e) ≡ true) es
+    valid-keys marks [] h = tt
+    valid-keys marks (e ∷ es) h = (h .0 .key-valid, valid-keys marks es (h .1))
 
 spoken-without-requires : tie.Need-spoken-without-requires
 spoken-without-requires c κs = c .before .before .before .before .pre .tabled
@@ -38,7 +51,7 @@ undo-requires : tie.Need-undo-requires
 undo-requires c κs =
     let s = c .before .before .before .before .before .before .before .before in
     let o = s .pre .tabled in
-    rw (c .before .tally-of .ensures) (tallied (given s) o, o .operations-fit, valid-keys (s .args .session .marks) (take (s .args .session .operations) (now (s .args .operations))) (o .entries), room-there (given s) o)
+    rw (c .before .tally-of .ensures) (undoable (given s) o)
 
 clear-job-requires : tie.Need-clear-job-requires
 clear-job-requires c κs =

@@ -23,7 +23,7 @@ returns c =
     let s = c .before .before .before .before .before .before in (
       c .after .ensures ∙ ap (λ b. tallyAfter (s .args .tally) (s .args .procedure) (s .args .spot .key) b) (ap (λ (x : Spot). x .there) (s .pre .1))
           ∙ moves (s .pre .0) (s .args .spot .key) (s .pre .2) (s .args .procedure),
-      c .before .before .before .affect .ensures,
+      c .before .before .before .affect .ensures .1,
     )
 
 pub affect-counting-spec : {M : Type 1} → statement M

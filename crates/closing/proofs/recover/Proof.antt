@@ -9,7 +9,7 @@ use Rattle.service.specs.Entry.{keyIn, kindIn}
 use Rattle.service.specs.Tile.{isKey}
 use Rattle.tiles.specs.Laws.{spot-named}
 use Rattle.tiles.specs.declared.Spot.{Spot}
-use Rattle.closing.proofs.Laws.{recovered-one, recovered-other, recovered-three}
+use Rattle.restoring.specs.Laws.{recovered-one, recovered-other, recovered-three}
 use Rattle.closing.proofs.recover.Statement.{statement}
 use Rattle.closing.proofs.recover.Tie as tie
 

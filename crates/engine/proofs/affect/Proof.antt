@@ -1,7 +1,7 @@
 -- `engine::affect` meets its contract: each procedure is what its effect says
 use mathlib.Core.Bool.{false}
 use mathlib.Core.List.{List}
-use mathlib.Core.Path.{_≡_}
+use mathlib.Core.Path.{_≡_, sym}
 use Prim.Native.Nat.{_<_, _≤_, ℕ}
 use native.Mathlib.Omega.{arith}
 use lib.ListN.{length, take}
@@ -41,16 +41,16 @@ same-length : tie.Need-same-length
 same-length c = search needs
 
 returns : tie.Need-returns
-returns c = rw (c .before .before .before .before .enum-told .given .1) (c .before .before .put .ensures .1)
+returns c = rw (c .before .before .before .before .enum-told .given .1) (c .before .before .put .ensures)
 
 same-length-2 : tie.Need-same-length-2
 same-length-2 c = search needs
 
 returns-2 : tie.Need-returns-2
-returns-2 c = rw (c .before .before .before .before .enum-told2 .given .1) (c .before .before .clear .ensures .1)
+returns-2 c = rw (c .before .before .before .before .enum-told2 .given .1) (c .before .before .clear .ensures)
 
 returns-3 : tie.Need-returns-3
-returns-3 c = rw (c .enum-told3 .given .1) (c .before .before .before .pre .0 .zeros-behind)
+returns-3 c = let t = c .before .before .before .pre .0 in rw (c .enum-told3 .given .1) (sym (used-length t), t .zeros-behind)
 
 pub affect-spec : {M : Type 1} → statement M
 affect-spec =

@@ -50,7 +50,7 @@ returns c =
     let entry = c .before .before .enter .ensures in
     performed (given s) (full s) (a .job) (a .sheet) (a .procedure) (a .spot .key) (s .pre .0) _ _ _
     (entry .0 ∙ ap (entered (a .session) (now (a .operations)) (a .procedure) (a .spot .key)) (found s))
-    (c .before .before .before .before .before .before .affect .ensures)
+    (c .before .before .before .before .before .before .affect .ensures .1)
     (entry .1 ∙ ap (λ b. set (now (a .operations)) (a .session .operations) (packEntry (a .sheet) (kind (a .procedure) b) (a .job) (a .spot .key))) (found s))
 
 pub perform-operation-spec : {M : Type 1} → statement M

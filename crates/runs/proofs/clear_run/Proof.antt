@@ -1,9 +1,9 @@
 -- `runs::clear_run` meets its contract: the others are kept, and the places behind them cleared
 use mathlib.Core.Path.{_∙_}
 use borrow.Author.Needs.{needs}
-use Rattle.runs.proofs.Keeping.{wiped}
 use Rattle.runs.proofs.clear_run.Statement.{statement}
 use Rattle.runs.proofs.clear_run.Tie as tie
+use Rattle.runs.specs.Laws.{wiped}
 
 keep-others-requires : tie.Need-keep-others-requires
 keep-others-requires c κs = search needs
