@@ -12,7 +12,7 @@ use Rattle.service.specs.Laws.Storing.{zeros-replicate}
 use Rattle.levels.specs.declared.Tally.{Tally}
 use Rattle.search.specs.Laws.{zeros-table}
 use Rattle.restoring.specs.Laws.{none-undone, undone-fits, undone-other, undone-own}
-use Rattle.restoring.specs.Notes.{Blank, MayNote, Noted, restoredBy, unmarked}
+use Rattle.restoring.specs.Notes.{Blank, MayNote, Foretold, restoredBy, unmarked}
 use Rattle.restoring.specs.Recovery.{Undoable, recovered, undoneFrom}
 use Rattle.restoring.specs.declared.Notes.{Notes}
 use Rattle.restoring.proofs.Members.{none-marked}
@@ -24,7 +24,7 @@ pub record NotedFrom (i : ℕ) (tiles : List ℕ) (c : Tally) (operations : List
   pub same-marks : length ms ≡ length ms₀
   pub same-back : length back ≡ length back₀
   pub few : n .coming + i ≤ used
-  pub noted : Noted tiles (c .tiles) (undoneFrom i job (take used operations) (take (c .tiles) tiles)) ms back n
+  pub noted : Foretold tiles (c .tiles) (undoneFrom i job (take used operations) (take (c .tiles) tiles)) ms back n
 
 module _ {tiles : List ℕ} {c : Tally} {operations : List ℕ} {used : ℕ} (u : Undoable tiles c operations used) (job : ℕ) {ms₀ : List Bool} {back₀ : List ℕ} (blank : Blank ms₀ back₀ (length tiles) used) where
   abbrev From : ℕ → List Bool → List ℕ → Notes → Type 0
@@ -60,7 +60,7 @@ module _ {tiles : List ℕ} {c : Tally} {operations : List ℕ} {used : ℕ} (u 
         }
 
     pub takes : jobIn (getD operations (i - 1) 0) ≡ job → (ms' : List Bool) (back' : List ℕ) (n' : Notes) → length ms' ≡ length ms → length back' ≡ length back
-        → Noted tiles (c .tiles) (recovered (getD operations (i - 1) 0) (restoredBy tiles (c .tiles) ms back n)) ms' back' n' × (n' .coming ≤ n .coming + 1) → From (i - 1) ms' back' n'
+        → Foretold tiles (c .tiles) (recovered (getD operations (i - 1) 0) (restoredBy tiles (c .tiles) ms back n)) ms' back' n' × (n' .coming ≤ n .coming + 1) → From (i - 1) ms' back' n'
     takes own ms' back' n' as-many-marks as-much-back done =
         let inside = s .inside in
         record {
@@ -68,7 +68,7 @@ module _ {tiles : List ℕ} {c : Tally} {operations : List ℕ} {used : ℕ} (u 
           same-marks = as-many-marks ∙ s .same-marks;
           same-back = as-much-back ∙ s .same-back;
           few = omega (arith, s .few, done .1);
-          noted = subst (λ l. Noted tiles (c .tiles) l ms' back' n')
+          noted = subst (λ l. Foretold tiles (c .tiles) l ms' back' n')
               (ap (recovered (getD operations (i - 1) 0)) (s .noted .become) ∙ sym (undone-own u job some inside own)) (done .0);
         }
 

@@ -13,7 +13,7 @@ use Rattle.search.specs.Laws.{padded-table, used-length}
 use Rattle.search.specs.Table.{TileTable}
 use Rattle.runs.specs.Runs.{applyAll}
 use Rattle.levels.specs.declared.Tally.{Tally}
-use Rattle.restoring.specs.Notes.{Noted, unmarked}
+use Rattle.restoring.specs.Notes.{Foretold, unmarked}
 use Rattle.restoring.specs.declared.Notes.{Notes}
 use Rattle.restoring.proofs.Members.{ascending-unmarked}
 
@@ -23,7 +23,7 @@ fewer (m ∷ ms) [] = omega arith
 fewer (true ∷ ms) (x ∷ xs) = let ih = fewer ms xs in omega arith
 fewer (false ∷ ms) (x ∷ xs) = let ih = fewer ms xs in omega arith
 
-module _ {tiles : List ℕ} {count : ℕ} {l : List ℕ} {ms : List Bool} {back : List ℕ} {n : Notes} (h : Noted tiles count l ms back n) (fits : length l ≤ length tiles)
+module _ {tiles : List ℕ} {count : ℕ} {l : List ℕ} {ms : List Bool} {back : List ℕ} {n : Notes} (h : Foretold tiles count l ms back n) (fits : length l ≤ length tiles)
     {t : List ℕ} {left : ℕ} (swept : (left ≡ length (unmarked ms (take count tiles))) × (t ≡ padded (length tiles) (unmarked ms (take count tiles)))) where
   abbrev stay : List ℕ
   stay = unmarked ms (take count tiles)

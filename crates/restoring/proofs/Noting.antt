@@ -20,20 +20,20 @@ use Rattle.search.specs.Laws.{padded-table, used-length}
 use Rattle.search.specs.Table.{positionOf}
 use Rattle.levels.specs.Laws.{movable, tally-kept}
 use Rattle.levels.specs.Tally.{Movable, tallyAfter, tallyOf}
-use Rattle.restoring.specs.Notes.{Noted, markedBy, restoredBy}
+use Rattle.restoring.specs.Notes.{Foretold, markedBy, restoredBy}
 use Rattle.restoring.specs.declared.Notes.{Notes}
 use Rattle.restoring.proofs.Members.{awaited-one, marked-one, one-more, place-inside, restored-ascending, there-absent, there-present}
 
 -- what the tiles become may be named by the notes themselves
-pub as-noted : {tiles : List ℕ} {count : ℕ} {l : List ℕ} {ms : List Bool} {back : List ℕ} {n : Notes} → Noted tiles count l ms back n → Noted tiles count (restoredBy tiles count ms back n) ms back n
-as-noted {tiles} {count} {l} {ms} {back} {n} h = subst (λ x. Noted tiles count x ms back n) (sym (h .become)) h
+pub as-noted : {tiles : List ℕ} {count : ℕ} {l : List ℕ} {ms : List Bool} {back : List ℕ} {n : Notes} → Foretold tiles count l ms back n → Foretold tiles count (restoredBy tiles count ms back n) ms back n
+as-noted {tiles} {count} {l} {ms} {back} {n} h = subst (λ x. Foretold tiles count x ms back n) (sym (h .become)) h
 
 marks-same : (p : Procedure) (at : ℕ) (ms : List Bool) → length (markedBy p at ms) ≡ length ms
 marks-same Ins at ms = length-set ms at false
 marks-same Del at ms = length-set ms at true
 marks-same Mem at ms = refl
 
-module _ {tiles : List ℕ} {count : ℕ} {l : List ℕ} {ms : List Bool} {back : List ℕ} {n : Notes} (h : Noted tiles count l ms back n) (k : ℕ) where
+module _ {tiles : List ℕ} {count : ℕ} {l : List ℕ} {ms : List Bool} {back : List ℕ} {n : Notes} (h : Foretold tiles count l ms back n) (k : ℕ) where
   abbrev t : List ℕ
   t = take count tiles
 
@@ -66,7 +66,7 @@ module _ {tiles : List ℕ} {count : ℕ} {l : List ℕ} {ms : List Bool} {back 
 
       pub noted-present : (p : Procedure) (n' : Notes) (ms' : List Bool)
           → (n' .tally ≡ tallyAfter (n .tally) p k stays) × (n' .coming ≡ n .coming) × (ms' ≡ markedBy p (positionOf k t) ms)
-          → Noted tiles count (apply (effect p) k l) ms' back n'
+          → Foretold tiles count (apply (effect p) k l) ms' back n'
       noted-present p n' ms' done =
           record {
             table = h .table;
@@ -90,7 +90,7 @@ module _ {tiles : List ℕ} {count : ℕ} {l : List ℕ} {ms : List Bool} {back 
 
       pub noted-absent : (p : Procedure) (n' : Notes) (back' : List ℕ) → n .coming < length back
           → (n' .tally ≡ tallyAfter (n .tally) p k (member k coming)) × (n' .coming ≡ length (apply (effect p) k coming)) × (back' ≡ padded (length back) (apply (effect p) k coming))
-          → Noted tiles count (apply (effect p) k l) ms back' n' × (n' .coming ≤ n .coming + 1)
+          → Foretold tiles count (apply (effect p) k l) ms back' n' × (n' .coming ≤ n .coming + 1)
       noted-absent p n' back' free done =
           let next = apply (effect p) k coming in
           let used : take (n' .coming) back' ≡ next = rw (done .1, done .2) (used-padded (length back) next) in

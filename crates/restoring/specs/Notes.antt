@@ -41,7 +41,7 @@ pub record Blank (ms : List Bool) (back : List ℕ) (tiles used : ℕ) : Type 0 
   pub room : used ≤ length back
 
 -- by these notes the tiles become l
-pub record Noted (tiles : List ℕ) (count : ℕ) (l : List ℕ) (ms : List Bool) (back : List ℕ) (n : Notes) : Type 0 where
+pub record Foretold (tiles : List ℕ) (count : ℕ) (l : List ℕ) (ms : List Bool) (back : List ℕ) (n : Notes) : Type 0 where
   pub table : TileTable tiles count
   pub markable : count ≤ length ms
   pub awaited : TileTable back (n .coming)
@@ -51,6 +51,6 @@ pub record Noted (tiles : List ℕ) (count : ℕ) (l : List ℕ) (ms : List Bool
 
 -- notes that have room for one more
 pub record MayNote (tiles : List ℕ) (count : ℕ) (ms : List Bool) (back : List ℕ) (n : Notes) : Type 0 where
-  pub noted : Noted tiles count (restoredBy tiles count ms back n) ms back n
+  pub noted : Foretold tiles count (restoredBy tiles count ms back n) ms back n
   pub room : n .coming < length back
   pub few : length (restoredBy tiles count ms back n) ≤ mostTiles

@@ -12,7 +12,7 @@ ghost use Rattle.service.specs.Tile.{isKey};
 ghost use Rattle.search.specs.Table.{TileTable};
 ghost use Rattle.runs.specs.Runs.{Kept};
 ghost use Rattle.levels.specs.Tally.{Movable, tallyAfter, tallyOf};
-ghost use Rattle.restoring.specs.Notes.{Blank, MayNote, Noted, markedBy, restoredBy, unmarked};
+ghost use Rattle.restoring.specs.Notes.{Blank, MayNote, Foretold, markedBy, restoredBy, unmarked};
 ghost use Rattle.restoring.specs.Recovery.{Undoable, recovered, recoveredJob};
 use levels::Tally;
 use service::MOST_OPERATIONS;
@@ -88,7 +88,7 @@ fn note(
     key: u32,
 ) -> Notes
     requires { ⌜ MayNote (now tiles) count (now marks) (now back) notes × (isKey key ≡ true) ⌝ }
-    ensures { λ r. ⌜ Noted (now (tiles .entry)) count
+    ensures { λ r. ⌜ Foretold (now (tiles .entry)) count
         (report.apply (report.effect procedure) key (restoredBy (now (tiles .entry)) count (now (marks .entry)) (now (back .entry)) notes)) (now (marks .exit)) (now (back .exit)) r
         × (r .coming ≤ notes .coming + 1) ⌝ }
 {
@@ -109,7 +109,7 @@ fn note_recovery(
     e: u64,
 ) -> Notes
     requires { ⌜ MayNote (now tiles) count (now marks) (now back) notes × (isKey (keyIn e) ≡ true) ⌝ }
-    ensures { λ r. ⌜ Noted (now (tiles .entry)) count
+    ensures { λ r. ⌜ Foretold (now (tiles .entry)) count
         (recovered e (restoredBy (now (tiles .entry)) count (now (marks .entry)) (now (back .entry)) notes)) (now (marks .exit)) (now (back .exit)) r
         × (r .coming ≤ notes .coming + 1) ⌝ }
 {
@@ -135,7 +135,7 @@ fn note_job(
     job: u8,
 ) -> Notes
     requires { ⌜ Undoable (now tiles) tally (now operations) used × Blank (now marks) (now back) (length (now tiles)) used ⌝ }
-    ensures { λ r. ⌜ Noted (now (tiles .entry)) (tally .tiles)
+    ensures { λ r. ⌜ Foretold (now (tiles .entry)) (tally .tiles)
         (recoveredJob job (take used (now (operations .entry))) (take (tally .tiles) (now (tiles .entry)))) (now (marks .exit)) (now (back .exit)) r ⌝ }
 {
     let count = tally.tiles;
@@ -190,7 +190,7 @@ fn sweep(tiles: &mut [u32], count: usize, marks: &[bool]) -> usize
 
 // Moves the tiles as noted: the marked ones go, and then those that come back are merged in.
 fn move_noted(tiles: &mut [u32], count: usize, marks: &[bool], back: &[u32], notes: Notes)
-    requires { ⌜ Noted (now tiles) count (restoredBy (now tiles) count (now marks) (now back) notes) (now marks) (now back) notes
+    requires { ⌜ Foretold (now tiles) count (restoredBy (now tiles) count (now marks) (now back) notes) (now marks) (now back) notes
         × (length (restoredBy (now tiles) count (now marks) (now back) notes) ≤ length (now tiles)) ⌝ }
     ensures { λ _. ⌜ now (tiles .exit)
         ≡ padded (length (now (tiles .entry))) (restoredBy (now (tiles .entry)) count (now (marks .entry)) (now (back .entry)) notes) ⌝ }
