@@ -82,7 +82,7 @@ impl Plan {
     /// Only single operations go through a block from its last tile to its first.
     fn goes_one_by_one(&self, random: &mut Random) -> bool {
         let falling = matches!(self.order, Order::Falling) && self.size <= MOST_SINGLE;
-        falling || random.one_in(6)
+        falling || random.one_in(8)
     }
 }
 

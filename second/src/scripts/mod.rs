@@ -75,7 +75,7 @@ fn write_sweeps(writer: &mut Writer) {
 /// Every size comes in every round; behind them chance finds others.
 fn write_large_ends(writer: &mut Writer) {
     large_ends::end_every_size(writer);
-    for _ in 0..8 {
+    for _ in 0..4 {
         large_ends::end_any_size(writer);
     }
 }
