@@ -1,5 +1,5 @@
-//! The recoveries of a job in one pass over the tiles, which no call uses: it is timed beside the
-//! recoveries as they are, each of which moves the tiles behind its own by one place.
+//! The recoveries of a job at once: what goes and what comes back is sorted, and then the tiles are
+//! moved in two passes. One by one, each recovery moves the tiles behind its own by one place.
 
 use crate::entry::{changes_its_tile, job, key, kind, INSERTED};
 use crate::session::{Session, MOST_OPERATIONS};
@@ -11,7 +11,7 @@ struct Moves {
     back: Vec<u32>,
 }
 
-/// Leaves what `engine::undo` leaves on sound tables.
+/// Leaves what `engine::undo_each` leaves on sound tables.
 pub fn undo_at_once(session: &mut Session, tiles: &mut [u32], operations: &[u64], ending: u8) {
     let moves = moves_of(&operations[..session.operations], ending);
     for &tile in &moves.gone {

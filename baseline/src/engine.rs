@@ -1,6 +1,7 @@
 //! What an admitted operation and the end of a job do to the tables; the calls and the replay
 //! share it.
 
+use crate::at_once::undo_at_once;
 use crate::chains;
 use crate::entry::{
     changes_its_tile, commutes, entry, job, key, kind, kind_of, origin, Origin, DELETED, INSERTED,
@@ -10,6 +11,9 @@ use crate::journal::Procedure;
 use crate::reply::Refusal;
 use crate::rule::Rule;
 use crate::session::Session;
+
+/// From so many changes on, undoing them at once is the faster way.
+const MANY: usize = 100;
 
 /// An operation that may be performed, and where its tile is or would be.
 pub struct Admitted {
@@ -114,8 +118,20 @@ fn remove_at(session: &mut Session, tiles: &mut [u32], place: usize) {
     tiles[session.tiles] = 0;
 }
 
-/// Runs the recoveries of a job's entries, newest first.
+/// Undoes what a job changed: at once where that is much, which asks for two passes over the tiles.
 pub fn undo(session: &mut Session, tiles: &mut [u32], operations: &[u64], ending: u8) {
+    let entries = &operations[..session.operations];
+    // both are asked, so that the count can be vectorised
+    let is_own = |&&e: &&u64| (job(e) == ending) & changes_its_tile(e);
+    if entries.iter().filter(is_own).count() < MANY {
+        undo_each(session, tiles, operations, ending);
+    } else {
+        undo_at_once(session, tiles, operations, ending);
+    }
+}
+
+/// Runs the recoveries of a job's entries, newest first.
+pub fn undo_each(session: &mut Session, tiles: &mut [u32], operations: &[u64], ending: u8) {
     let entries = &operations[..session.operations];
     for &e in entries.iter().rev().filter(|&&e| job(e) == ending) {
         match (kind(e), tiles[..session.tiles].binary_search(&key(e))) {

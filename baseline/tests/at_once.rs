@@ -1,7 +1,7 @@
-//! Undoing all of a job's tiles in one pass leaves what undoing them one by one leaves.
+//! Undoing all of a job's tiles at once leaves what undoing them one by one leaves.
 
 use baseline::at_once::undo_at_once;
-use baseline::engine::undo;
+use baseline::engine::{undo, undo_each};
 use baseline::entry::job;
 use baseline::rule::Rule;
 use baseline::session::Session;
@@ -35,12 +35,13 @@ fn employed_packs_are_sound_and_have_so_many_entries() {
 }
 
 #[test]
-fn one_pass_leaves_what_single_recoveries_leave() {
+fn at_once_leaves_what_single_recoveries_leave() {
     let mut changed = 0;
     for (pack, _) in packs() {
         for ending in [IDLE_JOB, 1, 62] {
-            let left = undone(&pack, undo, ending);
+            let left = undone(&pack, undo_each, ending);
             assert!(left == undone(&pack, undo_at_once, ending));
+            assert!(left == undone(&pack, undo, ending));
             changed += usize::from(left != pack);
         }
     }
@@ -52,7 +53,7 @@ fn tiles_that_a_job_changed_more_than_once() {
     for seed in 0..4 {
         let pack = Sort::Own.pack(Rule::Together, seed);
         for ending in 0..64 {
-            let left = undone(&pack, undo, ending);
+            let left = undone(&pack, undo_each, ending);
             assert!(left == undone(&pack, undo_at_once, ending));
         }
     }

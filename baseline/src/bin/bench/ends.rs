@@ -6,7 +6,7 @@ use crate::scenes::{named, time_calls, time_each, timed, PACKS};
 use crate::table::Row;
 use crate::ways::Way;
 use baseline::at_once::undo_at_once;
-use baseline::engine::undo;
+use baseline::engine::undo_each;
 use baseline::rule::Rule;
 use baseline::soundness::Check;
 use baseline::workload::packs::{Sort, IDLE_JOB};
@@ -92,12 +92,11 @@ pub fn print_parts(ends: &[End]) {
     }
 }
 
-/// Undoing the tiles as it is done, a move for each recovery, beside one pass for all of them, both
-/// in Rust.
+/// Undoing the tiles by a move for each recovery beside undoing them at once, both in Rust.
 pub fn print_undoing() {
     println!(
         "{:70}{:>18}{:>18}",
-        "undoing the tiles in Rust, microseconds", "each by itself", "one pass"
+        "undoing the tiles in Rust, microseconds", "one by one", "at once"
     );
     for (rule, sort) in scenes() {
         for entries in ENTRIES {
@@ -114,7 +113,7 @@ fn time_undoing(packs: impl Iterator<Item = World>) -> [f64; 2] {
     for pack in packs {
         let mut best = [Duration::MAX; 2];
         for _ in 0..UNDO_ROUNDS {
-            for (best, undoing) in best.iter_mut().zip([undo, undo_at_once]) {
+            for (best, undoing) in best.iter_mut().zip([undo_each, undo_at_once]) {
                 let mut world = pack.clone();
                 let (session, tables) = world.lend();
                 let spent = timed(|| undoing(session, tables.tiles, tables.operations, IDLE_JOB));

@@ -26,7 +26,7 @@ pub fn time_all() -> Vec<Row> {
     let checks = Sort::all().map(|(rule, sort)| time_check(rule, sort));
     let mut rows: Vec<Row> = checks.collect();
     rows.extend(Rule::ALL.map(time_recorded));
-    rows.push(time_open());
+    rows.extend(Rule::ALL.map(time_open));
     for (rule, change) in rectangles() {
         rows.extend(time_rectangle(rule, change));
     }
@@ -119,11 +119,11 @@ fn time_list(way: Way, recorded: &Recorded) -> Vec<Duration> {
     spent
 }
 
-fn time_open() -> Row {
-    let packs = (0..PACKS).map(|seed| Sort::Mixed.pack(Rule::Alone, seed));
+fn time_open(rule: Rule) -> Row {
+    let packs = (0..PACKS).map(|seed| Sort::Mixed.pack(rule, seed));
     let open = Call::Open(CLOSED_JOB);
     let scenes: Vec<(World, Call)> = packs.map(|pack| (pack, open)).collect();
-    time_calls(named(Rule::Alone, "open", Sort::Mixed.name()), &scenes)
+    time_calls(named(rule, "open", Sort::Mixed.name()), &scenes)
 }
 
 /// Calls that are accepted, each on tables of its own.
