@@ -1,74 +1,21 @@
-// What an open or the end of a job replies, decided before anything is written, and a reply's numbers.
+// What an open or the end of a job replies, decided before anything is written.
 ghost use mathlib.Core.Bool.{false};
 ghost use mathlib.Core.Path.{_≡_};
 ghost use lib.Dec.{eqb};
 ghost use lib.IntN.{pos};
 ghost use Rattle.service.specs.Calls.{endRefusals, openRefusals};
-ghost use Rattle.service.specs.Told.{bare, decided, done, told};
+ghost use Rattle.service.specs.Told.{decided, done, told};
 ghost use Rattle.service.specs.World.{world};
 use service::LAST_JOB;
 use service::Reply;
 use service::SHORT_SIZE;
 use service::Session;
-use service::Told;
-
-// A number whose other fields are 0.
-fn bare_number(number: u8) -> Told
-    ensures { λ r. ⌜ r ≡ bare number ⌝ }
-{
-    Told {
-        number,
-        answer: 0,
-        holder: 0,
-        sheet: 0,
-        turns: 0,
-        last: 0,
-    }
-}
-
-// A reply's numbers.
-pub fn numbers(reply: Reply) -> Told
-    ensures { λ r. ⌜ r ≡ told reply ⌝ }
-{
-    match reply {
-        Reply::Done {
-            answer,
-            turns,
-            last,
-        } => Told {
-            number: 0,
-            answer: answer as u8,
-            holder: 0,
-            sheet: 0,
-            turns,
-            last,
-        },
-        Reply::NotSound => bare_number(1),
-        Reply::NoSuchJob => bare_number(2),
-        Reply::NotOpen => bare_number(3),
-        Reply::AlreadyOpen => bare_number(4),
-        Reply::OutOfRange => bare_number(5),
-        Reply::Held { job, sheet } => Told {
-            number: 6,
-            answer: 0,
-            holder: job,
-            sheet,
-            turns: 0,
-            last: 0,
-        },
-        Reply::NoTileRoom => bare_number(7),
-        Reply::NoOperationRoom => bare_number(8),
-        Reply::NoJournalRoom => bare_number(9),
-        Reply::Misshapen => bare_number(13),
-        Reply::NoEdition => bare_number(14),
-    }
-}
 
 // Whether a reply says that the call is carried out.
 pub fn accepted(reply: Reply) -> bool
     ensures { λ r. ⌜ r ≡ eqb (told reply .number) 0 ⌝ }
 {
-    let told = numbers(reply);
+    let told = numbering::numbers(reply);
     told.number == 0
 }
 

@@ -1,8 +1,8 @@
--- `decisions::numbers` meets its contract: by the reply
+-- `numbering::numbers` meets its contract: by the reply
 use borrow.Author.Needs.{needs}
 use Rattle.address.proofs.Signed.{field-read}
-use Rattle.decisions.proofs.numbers.Statement.{statement}
-use Rattle.decisions.proofs.numbers.Tie as tie
+use Rattle.numbering.proofs.numbers.Statement.{statement}
+use Rattle.numbering.proofs.numbers.Tie as tie
 
 enum-known-reply : tie.Need-enum-known-reply
 enum-known-reply c = search needs
