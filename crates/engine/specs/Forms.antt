@@ -24,11 +24,11 @@ use Rattle.service.specs.Entry.{entryOf, opIn, packEntry}
 use Rattle.service.specs.Laws.Entries.{entries-back, settled-sound}
 use Rattle.service.specs.Laws.Standing.{Stands, stands-perform}
 use Rattle.service.specs.Laws.Storing.{tabled-stands}
-use Rattle.service.specs.Replay.{ruled}
 use Rattle.service.specs.Sound.{Tabled}
 use Rattle.service.specs.Tile.{isKey}
 use Rattle.service.specs.World.{World, state, usedOperations, usedTiles, world}
 use Rattle.service.specs.declared.Session.{Session}
+use Rattle.readback.specs.Replay.{ruled}
 use Rattle.levels.specs.Laws.{movable, tally-kept}
 use Rattle.levels.specs.Tally.{Movable, tallyAfter, tallyOf}
 use Rattle.levels.specs.declared.Tally.{Tally}

@@ -20,9 +20,7 @@ use Rattle.strict.specs.Tiles.{member}
 use Rattle.strict.specs.declared.Rule.the-variants.{Alone}
 use Rattle.strict.specs.declared.Rule.{Rule}
 use Rattle.service.specs.Admission.{isOpen, openMarks}
-use Rattle.service.specs.Claims.{Keeps, RebuildsAlone, Serves, records, sheetlessTold}
-use Rattle.service.specs.Demands.{replay-exact}
-use Rattle.service.specs.Extents.{extentIn, upto}
+use Rattle.service.specs.Claims.{Keeps, Serves, sheetlessTold}
 use Rattle.service.specs.History.{Call, From, forSheets, history}
 use Rattle.service.specs.Laws.Sheets.{from-alike}
 use Rattle.service.specs.Limits.{jobCount, lastJob, northEdition, operationSize, shortSize, southEdition}
@@ -31,6 +29,9 @@ use Rattle.service.specs.Tile.{isEdition, turnsOf}
 use Rattle.service.specs.Told.{toldHeld}
 use Rattle.service.specs.Turns.{TellsTurns}
 use Rattle.service.specs.World.{World, freeBytes, state, usedJournal}
+use Rattle.readback.specs.Claims.{RebuildsAlone, records}
+use Rattle.readback.specs.Demands.{replay-exact}
+use Rattle.readback.specs.Extents.{extentIn, upto}
 use Rattle.rectangles.specs.Claims.{AllDone, Apart, Before, FirstHeld, FromMoves, Inside, Misshapen, Move, Shaped, bytesRunOut, callsOf, followed, leftBy, placesRunOut, recordsOf, refusingRectangle, slotsRunOut, written}
 use Rattle.rectangles.specs.Laws.Demanding.{rectangle-accepted, rectangle-held, rectangle-room-just}
 use Rattle.rectangles.specs.Laws.Judging.{told-first, told-five, told-fourteen, told-held, told-room, told-thirteen}

@@ -4,7 +4,7 @@ use mathlib.Core.List.{List, map}
 use mathlib.Core.Logic.{_↔_}
 use mathlib.Core.Option.{some}
 use mathlib.Core.Path.{_∙_, _≡_, ap, ap₂, subst}
-use Prim.Native.Nat.{_-_, _<_, _≤_, ℕ}
+use Prim.Native.Nat.{_<_, _≤_, ℕ}
 use native.Mathlib.Omega.{arith}
 use lib.ListN.{length, take}
 use Rattle.strict.specs.Book.{placesTaken}
@@ -18,22 +18,17 @@ use Rattle.strict.specs.declared.Rule.the-variants.{Alone}
 use Rattle.strict.specs.declared.Rule.{Rule}
 use Rattle.service.specs.Admission.{State, answerOn, answerTo}
 use Rattle.service.specs.Calls.{operationCall}
-use Rattle.service.specs.Claims.{Reached, Reads, RebuildsAlone, Stops, operationBytes, records, tilesAfter}
+use Rattle.service.specs.Claims.{Reached, operationBytes, tilesAfter}
 use Rattle.service.specs.Entry.{opIn}
-use Rattle.service.specs.Extents.{extentIn, upto}
 use Rattle.service.specs.History.{Call, From, call, event, history, turnsBy}
-use Rattle.service.specs.Journal.{readAt, ruleBytes}
 use Rattle.service.specs.Laws.Accepting.{told-done}
 use Rattle.service.specs.Laws.Exact.{accepted-just, held-just, room-just}
 use Rattle.service.specs.Laws.Performing.{Arrived, answer-is, arrived, arrived-reached, stands, table-is, tiles-are}
-use Rattle.service.specs.Laws.Reading.{rule-first}
-use Rattle.service.specs.Laws.Rebuilding.{cut-records, reads-back, rebuilds}
 use Rattle.service.specs.Limits.{jobCount}
 use Rattle.service.specs.Tile.{keyOf}
 use Rattle.service.specs.Told.{done}
-use Rattle.service.specs.World.{World, freeBytes, usedJournal, usedOperations, usedTiles}
+use Rattle.service.specs.World.{World, freeBytes, usedOperations, usedTiles}
 use Rattle.service.specs.declared.Address.{Address}
-use Rattle.service.specs.declared.Read.the-variants.{End}
 
 -- by either rule
 module _ {r : Rule} {tiles : List ℕ} {count : ℕ} {operations journal : List ℕ} {cs : Log Call} {w : World} (from : From r tiles count operations journal cs w) where
@@ -80,26 +75,6 @@ module _ {r : Rule} {tiles : List ℕ} {count : ℕ} {operations journal : List 
     ap (λ (x : State). x .book .tiles) (there .has-state) ∙ tiles-are _ _ r start-tiles (there .start-stands) (history cs) (there .taken),
     ap (λ (x : State). x .book .table) (there .has-state) ∙ table-is _ _ r start-tiles (there .start-stands) (history cs) (there .taken),
   )
-
-  -- the used bytes, read record after record, are the calls with their answers, keys and sheets, and then the end
-  pub journal-reads-back : Reads (usedJournal w) 0 (records start-tiles (history cs)) (length (usedJournal w))
-      × (readAt (usedJournal w) (length (usedJournal w)) ≡ End)
-  journal-reads-back = reads-back there
-
-  -- the journal cut after n bytes has the records of the calls whose bytes fit in n, and no other, and ends where they do
-  pub cut-reads : (n : ℕ) →
-      let end = extentIn r n (history cs) in
-      Reads (take n (usedJournal w)) 0 (records start-tiles (upto r n (history cs))) end × Stops (readAt (take n (usedJournal w)) end)
-  cut-reads n = cut-records there n
-
-  -- replayed onto the starting tiles, it leaves what those of them do whose job commits among them
-  pub replay-exact : (n : ℕ) (operations′ : List ℕ) → length operations′ ≡ length operations
-      → RebuildsAlone (take n (usedJournal w)) tiles count operations′ (records start-tiles (upto r n (history cs))) (extentIn r n (history cs))
-  replay-exact n operations′ same = rebuilds there n operations′ same _ _ (cut-reads n .0) (cut-reads n .1)
-
-  -- where a job fails as one, the rule stands in front of them; else the first record does
-  pub journal-ruled : take (length (ruleBytes r)) (usedJournal w) ≡ ruleBytes r
-  journal-ruled = ap (take (length (ruleBytes r))) (there .has-journal) ∙ rule-first r start-tiles (history cs)
 
 -- by the first rule
 module _ {tiles : List ℕ} {count : ℕ} {operations journal : List ℕ} {cs : Log Call} {w : World} (from : From Alone tiles count operations journal cs w) where

@@ -1,35 +1,25 @@
 -- WHICH SHEET PUT THE HOLD THERE: a hold names it, and nothing else depends on sheets
-use mathlib.Core.List.{List, _++_, map}
+use mathlib.Core.List.{List, map}
 use mathlib.Core.Logic.{_↔_, _≢_}
 use mathlib.Core.Option.{Option, none, some}
 use mathlib.Core.Path.{_∙_, _≡_, ap, refl, sym}
-use Prim.Native.Nat.{_+_, _≤_, ℕ}
-use mathlib.Core.Bool.{Bool, true}
-use lib.ListN.{drop}
+use Prim.Native.Nat.{ℕ}
 use Rattle.strict.specs.Commutativity.{FirstHolder, Signature}
-use Rattle.strict.specs.Operations.{answer, begun}
+use Rattle.strict.specs.Operations.{begun}
 use Rattle.strict.specs.Strict.{Log}
 use Rattle.strict.specs.Theorems.{first-holder}
 use Rattle.strict.specs.declared.Procedure.{Procedure}
 use Rattle.strict.specs.declared.Rule.{Rule}
-use Rattle.service.specs.Admission.{State}
 use Rattle.service.specs.Calls.{operationCall, startCall, startRefusals}
 use Rattle.service.specs.Claims.{Serves, holderIn, sheetlessTold}
 use Rattle.service.specs.Entry.{opIn}
 use Rattle.service.specs.History.{Call, From, call, forSheet, forSheets}
-use Rattle.service.specs.Journal.{encode, front, readAt}
 use Rattle.service.specs.Laws.Deciding.{held-names, told-six}
-use Rattle.service.specs.Laws.Reading.{read-older}
 use Rattle.service.specs.Laws.Sheets.{accepted-alike, decided-so, from-alike, no-sheet, told-alike}
-use Rattle.service.specs.Limits.{lastJob, olderSize}
-use Rattle.service.specs.Replay.{Halt, turn}
-use Rattle.service.specs.Tile.{isKey, keyOf}
+use Rattle.service.specs.Tile.{keyOf}
 use Rattle.service.specs.Told.{bare, toldHeld}
 use Rattle.service.specs.World.{World, usedOperations, usedTiles}
 use Rattle.service.specs.declared.Address.{Address}
-use Rattle.service.specs.declared.Operation.{Operation}
-use Rattle.service.specs.declared.Read.the-variants.{Whole}
-use Rattle.service.specs.declared.Record.the-variants.{Performed, Sheeted}
 use Rattle.service.specs.declared.Told.{Told}
 
 -- a hold names job and sheet of the first entry, in admission order, that holds, by either rule
@@ -58,15 +48,6 @@ other-sheetless w c = no-sheet w c
 pub start-sheetless : (r : Rule) (tiles : List ℕ) (count : ℕ) (operations journal : List ℕ) → startCall r tiles count operations journal .told .sheet ≡ 0
 unfolding startCall
 start-sheetless r tiles count operations journal = decided-so (λ x. x .sheet ≡ 0) (startRefusals r tiles count operations journal) (bare 0) (refl, (refl, tt)) refl
-
--- a record of before sheets is read, and is taken just as one with sheet 0
-pub old-records-taken : (journal : List ℕ) (at job : ℕ) (p : Procedure) (found : Bool) (k : ℕ) (rest : List ℕ) → job ≤ lastJob → isKey k ≡ true →
-    let o : Operation = record { job = job; procedure = p; answer = answer p found; key = k } in
-    drop at journal ≡ encode (Performed o) ++ rest
-    → (readAt journal at ≡ Whole (Performed o) (at + olderSize))
-    × ((places slots : ℕ) (s : State) (next : ℕ) (onward : ℕ → State → Halt) → turn places slots at s (Whole (Performed o) next) onward ≡ turn places slots at s (Whole (Sheeted o 0) next) onward)
-unfolding readAt
-old-records-taken journal at job p found k rest small valid is = (ap (front at) is ∙ read-older at job p found k rest small valid, λ places slots s next onward. refl)
 
 -- what is accepted for some sheets is accepted for any
 pub sheets-accepted : {r : Rule} {tiles : List ℕ} {count : ℕ} {operations journal : List ℕ} {cs : Log Call} {w : World}

@@ -4,47 +4,43 @@ use mathlib.Core.List.{List, _++_, _∷_, map}
 use mathlib.Core.Logic.{_↔_, _≢_, _⊎_}
 use mathlib.Core.Option.{none, some}
 use mathlib.Core.Path.{_∙_, _≡_, ap, refl, subst, sym}
-use Prim.Native.Nat.{_+_, _-_, _<_, _≤_, ℕ}
+use Prim.Native.Nat.{_+_, _<_, _≤_, ℕ}
 use native.Mathlib.Omega.{arith}
 use lib.Dec.{eqb, ltb}
-use lib.ListN.{drop, length, take}
+use lib.ListN.{drop, length}
 use lib.Seq.{length-sets, sets-eq}
 use borrow.Author.Tests.{eq-eqb, eqb-false, eqb-true, le-ltb, lt-ltb, ltb-false, ltb-true, ne-eqb, not-true}
 use Rattle.lists.specs.Lists.{All}
-use Rattle.lists.specs.Truth.{both}
+use Rattle.lists.specs.Truth.{both, oneIf}
 use Rattle.strict.specs.Commutativity.{FirstHolder, Signature}
-use Rattle.strict.specs.Histories.{Event}
-use Rattle.strict.specs.Operations.{begun}
+use Rattle.strict.specs.Operations.{answer, begun}
 use Rattle.strict.specs.Tiles.{member}
 use Rattle.strict.specs.declared.Procedure.{Procedure}
 use Rattle.strict.specs.declared.Rule.the-variants.{Together}
 use Rattle.strict.specs.declared.Rule.{Rule}
-use Rattle.service.specs.Admission.{State, answerTo, isOpen}
+use Rattle.service.specs.Addresses.{address-given}
+use Rattle.service.specs.Admission.{answerTo, isOpen}
 use Rattle.service.specs.Calls.{abortCall, carried, commitCall, concluded, emptySession, openCall, operationCall, ruledWorld, startCall, startWorld}
-use Rattle.service.specs.Claims.{ChangedByOther, Keeps, Missing, Named, NoRoomByJob, OfEdition, Placeless, Serves, Tells, WantsOpen, holderIn, openBytes, operationBytes, refusing}
+use Rattle.service.specs.Claims.{ChangedByOther, Keeps, NoRoomByJob, OfEdition, Placeless, Serves, WantsOpen, holderIn, openBytes, operationBytes, refusing}
 use Rattle.service.specs.Entry.{opIn}
 use Rattle.service.specs.Extents.{recordSize}
-use Rattle.service.specs.History.{Call, call, event, jobOf, refusalsOf, turnsBy}
-use Rattle.service.specs.Journal.{encode, front, readAt, readCall, recordOf, ruleBytes}
-use Rattle.service.specs.Laws.Accepting.{after-stands, carried-bytes, carried-places, carried-slots, carried-sound, first-told, left-carried, lowest-told, none-told, passed, passes, told-listed}
+use Rattle.service.specs.History.{Call, call, event, jobOf, operating, refusalsOf, turnsBy}
+use Rattle.service.specs.Journal.{encode, recordOf, ruleBytes}
+use Rattle.service.specs.Laws.Accepting.{after-stands, carried-bytes, carried-places, carried-slots, carried-sound, first-told, left-carried, lowest-told, none-told, passed, passes, told-done, told-listed}
 use Rattle.service.specs.Laws.Deciding.{accepted-told, held-by-other, held-names, room-by-job, told-eight, told-nine, told-seven}
 use Rattle.service.specs.Laws.Ordering.{open-told, told-five, told-four, told-fourteen, told-one, told-three, told-two}
-use Rattle.service.specs.Laws.Outcomes.{cut-just, end-just, tells-so}
 use Rattle.service.specs.Laws.Performing.{start-is, start-told}
-use Rattle.service.specs.Laws.Reading.{read-whole}
 use Rattle.service.specs.Laws.Soundness.{is-sound, sound-is}
 use Rattle.service.specs.Laws.Starting.{start-numbers, told-of-start}
 use Rattle.service.specs.Laws.Storing.{open-small}
-use Rattle.service.specs.Laws.Whole.{bytes-encoded, in-front, read-rule}
 use Rattle.service.specs.Laws.Wording.{settled-worded, worded-settled}
-use Rattle.service.specs.Limits.{jobCount, lastJob, northEdition, shortSize, southEdition}
+use Rattle.service.specs.Limits.{jobCount, lastJob, northEdition, southEdition}
 use Rattle.service.specs.Sound.{AllSettled, Sound, Worded, soundB}
-use Rattle.service.specs.Tile.{isEdition, keyOf}
+use Rattle.service.specs.Tile.{Placed, isEdition, keyOf}
 use Rattle.service.specs.Told.{Refusal, bare, done, refused, toldHeld}
 use Rattle.service.specs.World.{Reported, World, freeBytes, state, usedJournal, usedOperations, usedTiles, world}
 use Rattle.service.specs.declared.Address.{Address}
-use Rattle.service.specs.declared.Read.the-variants.{Cut, End, Ruled, Whole}
-use Rattle.service.specs.declared.Record.{Record}
+use Rattle.service.specs.declared.Told.{Told}
 
 -- 1. ONE NUMBER FROM THE LIST, AND A REFUSAL CHANGES NOTHING
 pub refusal-changes-nothing : (w : World) (c : Call) → call w c .told .number ≢ 0 → (call w c .after ≡ w) × (member (call w c .told .number) (refusing c) ≡ true)
@@ -119,6 +115,12 @@ module _ (w : World) (job sheet : ℕ) (p : Procedure) (a : Address) (k : ℕ) (
   pub accepted-given : (operationCall w job sheet p a .told .number ≡ 0)
       ↔ ((holderIn w job p k ≡ none) × (Placeless w job p k → ⊥) × (w .session .operations < length (w .operations)) × (operationBytes w ≤ freeBytes w))
   accepted-given = accepted-told w job sheet p a k v has-key
+
+  -- which answers as the report says: ins and del ok, and mem where the tile is there
+  pub answer-exact : operationCall w job sheet p a .told .number ≡ 0 → operationCall w job sheet p a .told .answer ≡ oneIf (answer p (member k (usedTiles w)))
+  answer-exact ok =
+      ap (λ (t : Told). t .answer) (told-done w (operating job sheet p a) ok)
+      ∙ ap (λ (x : Placed). oneIf (answer p (member (x .key) (usedTiles w)))) (address-given a k has-key)
 
   -- where a job fails as one, 6 is given just where an unfinished entry of another job changed that tile
   pub held-own : w .session .rule ≡ Together → (operationCall w job sheet p a .told .number ≡ 6) ↔ ChangedByOther job k (usedOperations w)
@@ -210,39 +212,3 @@ ends-accepted w job full sound is-open =
     let l = open-small (w .session .marks) job is-open in
     let j = le-ltb lastJob job (omega arith) in
     (rw (sound, j, is-open), rw (sound, j, is-open))
-
--- 3. A REPLAY OF ANY BYTES
--- the bytes of a whole record are the encoding of what was read, so that they can be read in no other way
-pub whole-is-encoded : (journal : List ℕ) (at : ℕ) (r : Record) (next : ℕ) → All (λ b. b < 256) journal → readAt journal at ≡ Whole r next
-    → take (next - at) (drop at journal) ≡ encode r
-whole-is-encoded journal at r next bytes reads = bytes-encoded journal at r next bytes reads
-
--- and what a call would write is read as that
-pub encoded-is-whole : (journal : List ℕ) (at : ℕ) (e : Event) (s : State) (rest : List ℕ) → Named e → drop at journal ≡ encode (recordOf e (answerTo s e)) ++ rest
-    → readAt journal at ≡ Whole (recordOf e (answerTo s e)) (at + recordSize e)
-unfolding readAt
-encoded-is-whole journal at e s rest named is = ap (front at) is ∙ read-whole at e s rest named
-
--- the end is behind the last byte, and a tail is cut just where its tag is known, the length bytes that are there are right, and bytes are missing
-pub end-exact : (journal : List ℕ) (at : ℕ) → (readAt journal at ≡ End) ↔ (length journal ≤ at)
-end-exact journal at = end-just journal at
-
-pub cut-exact : (journal : List ℕ) (at : ℕ) → (readAt journal at ≡ Cut) ↔ Missing (drop at journal)
-cut-exact journal at = cut-just journal at
-
--- the reader tells 10 and its offset of a malformed record, and 0 of all others
-pub reader-tells : (journal : List ℕ) (at : ℕ) → Tells at (readAt journal at) (readCall journal at)
-reader-tells journal at = tells-so at (readAt journal at)
-
--- a rule is read in front alone, as 5, 0, 1, 2
-pub rule-in-front : (journal : List ℕ) (at next : ℕ) → readAt journal at ≡ Ruled next → (at ≡ 0) × (next ≡ shortSize) × (take shortSize journal ≡ ruleBytes Together)
-unfolding readAt
-rule-in-front journal at next e =
-    let f = in-front at next (drop at journal) e in
-    let whole : journal ≡ 5 ∷ 0 ∷ 1 ∷ 2 ∷ f .behind = ap (λ x. drop x journal) (sym (f .first-place)) ∙ f .is-rule in
-    (f .first-place, f .next-place, ap (take shortSize) whole)
-
--- and there it is read, whatever stands behind it
-pub rule-is-read : (rest : List ℕ) → readAt (ruleBytes Together ++ rest) 0 ≡ Ruled shortSize
-unfolding readAt
-rule-is-read rest = read-rule rest

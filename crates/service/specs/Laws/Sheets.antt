@@ -26,8 +26,7 @@ use Rattle.service.specs.Extents.{extent, recordSize}
 use Rattle.service.specs.Journal.{encode, recordOf, ruleBytes}
 use Rattle.service.specs.History.{Call, From, aborting, call, called, committing, event, forSheet, forSheets, history, opening, operating, refusalsOf, started, turnsBy}
 use Rattle.service.specs.Laws.Accepting.{left-carried}
-use Rattle.service.specs.Laws.Performing.{Arrived, arrived, performs}
-use Rattle.service.specs.Laws.Reading.{length-written}
+use Rattle.service.specs.Laws.Performing.{Arrived, arrived, length-written, performs}
 use Rattle.service.specs.Laws.Soundness.{is-sound}
 use Rattle.service.specs.Limits.{lastJob, operationSize, shortSize}
 use Rattle.service.specs.Sound.{soundB}

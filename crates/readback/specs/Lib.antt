@@ -1,0 +1,11 @@
+pub mod Reading
+pub mod Extents
+pub mod Replay
+pub mod Claims
+pub mod Laws
+pub mod Theorems
+pub mod Demands
+pub mod Replays
+pub mod Once
+pub mod Examples
+pub mod Printed
