@@ -6,6 +6,8 @@ ghost use lib.ListN.{length};
 ghost use Rattle.desk.specs.Lent.{Lent};
 use desk::Desk;
 
+mod commands;
+
 // How far the input is answered: a place in what was read, and how many lines may still come.
 struct Progress {
     desk: Desk,
@@ -35,7 +37,7 @@ fn answer_lines(
         if end == text.len() {
             break;
         }
-        reached = desk::answer_line(reached, &text[at..end], tiles, operations, journal);
+        reached = commands::answer_line(reached, &text[at..end], tiles, operations, journal);
         at = end + 1;
         more -= 1;
     }

@@ -1,5 +1,6 @@
 // The commands that call the service.
-use outside::Numbered;
+use crate::outside;
+use crate::outside::Numbered;
 use sanbirogu::Address;
 use sanbirogu::Change;
 use sanbirogu::Outcome;
@@ -122,6 +123,6 @@ pub fn answer(
         Word::DelAll => operate_all(Change::Delete, command, session, tiles, operations, journal),
         Word::Commit => answered(sanbirogu::commit(session, tiles, operations, journal, job)),
         Word::Abort => answered(sanbirogu::abort(session, tiles, operations, journal, job)),
-        _ => looks::look(command, session, tiles, operations, journal),
+        _ => outside::change(command, session, tiles, operations, journal),
     }
 }

@@ -1,11 +1,12 @@
-// A session with its lent tables, on which one line after another is answered.
+// A session with its lent tables: lending, and the commands that change them.
 ghost use mathlib.Core.Path.{_≡_};
 ghost use Rattle.desk.specs.Lent.{Lent};
+pub use calls::answer;
 use sanbirogu::Session;
 use script::Command;
-use script::Word;
 
 mod calls;
+mod outside;
 
 // The session, and how many places of each table are lent.
 pub struct Desk {
@@ -52,7 +53,7 @@ fn clear_journal(journal: &mut [u8]) {
 }
 
 // Lends so many places of each table, all 0, with an empty session.
-fn lend(
+pub fn lend(
     desk: Desk,
     command: Command,
     tiles: &mut [u32],
@@ -75,41 +76,6 @@ fn lend(
     answers::print_lent(t, o, j);
     Desk {
         session: sanbirogu::empty_session(),
-        tiles: t,
-        operations: o,
-        journal: j,
-    }
-}
-
-// Answers one line.
-pub fn answer_line(
-    desk: Desk,
-    line: &[u8],
-    tiles: &mut [u32],
-    operations: &mut [u64],
-    journal: &mut [u8],
-) -> Desk
-    requires { ⌜ Lent desk (now tiles) (now operations) (now journal) ⌝ }
-    ensures { λ r. ⌜ Lent r (now (tiles .entry)) (now (operations .entry)) (now (journal .entry)) ⌝ }
-{
-    let command = script::parse(line);
-    let word = command.word;
-    if let Word::Lend = word {
-        return lend(desk, command, tiles, operations, journal);
-    }
-    let t = desk.tiles;
-    let o = desk.operations;
-    let j = desk.journal;
-    let session = desk.session;
-    let next = calls::answer(
-        command,
-        session,
-        &mut tiles[..t],
-        &mut operations[..o],
-        &mut journal[..j],
-    );
-    Desk {
-        session: next,
         tiles: t,
         operations: o,
         journal: j,

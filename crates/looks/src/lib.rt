@@ -1,4 +1,4 @@
-// The commands that leave the session as it is.
+// The commands that leave the session as it is, but for the one that shows it.
 use sanbirogu::Address;
 use sanbirogu::Session;
 use script::Command;
@@ -9,6 +9,7 @@ use script::second;
 use script::signed;
 use script::third;
 
+mod checksum;
 mod help;
 
 fn lone_address(command: Command) -> Address {
@@ -95,13 +96,14 @@ fn run_mend(
     );
 }
 
+// Whether the command is such a one; it is answered then.
 pub fn look(
     command: Command,
     session: Session,
     tiles: &mut [u32],
     operations: &mut [u64],
-    journal: &mut [u8],
-) -> Session {
+    journal: &[u8],
+) -> bool {
     let word = command.word;
     match word {
         Word::Address => {
@@ -119,9 +121,8 @@ pub fn look(
         ),
         Word::Levels => answers::print_levels(session),
         Word::Sum => answers::print_sum(checksum::sum(session, tiles, operations, journal)),
-        Word::Show => picture::show(session, tiles, operations, journal),
         Word::Help => help::print_commands(),
-        _ => return outside::change(command, session, tiles, operations, journal),
+        _ => return false,
     }
-    session
+    true
 }

@@ -1,25 +1,28 @@
--- `checksum::sum_with_journal` is safe and ends
+-- `looks::checksum::sum_with_tiles` is safe and ends
 use Prim.Native.Nat.{_-_, _<_, _≤_}
 use native.Mathlib.Omega.{arith}
 use lib.ListN.{length}
 use borrow.Author.Needs.{needs}
-use Rattle.checksum.proofs.sum_with_journal.Statement.{statement}
-use Rattle.checksum.proofs.sum_with_journal.Tie as tie
+use Rattle.looks.proofs.checksum.sum_with_tiles.Statement.{statement}
+use Rattle.looks.proofs.checksum.sum_with_tiles.Tie as tie
 
 abbrev Inv-loop : tie.InvT-loop
-Inv-loop before journal sum₀ i₀ sum i = (i ≤ length journal) × (sum < 4294967291)
+Inv-loop before tiles sum₀ i₀ sum i = (i ≤ length tiles) × (sum < 4294967291)
 
 abbrev μ-loop : tie.MeasureT-loop
-μ-loop before journal sum₀ i₀ sum i = length journal - i
+μ-loop before tiles sum₀ i₀ sum i = length tiles - i
 
 loop-holds : tie.Need-loop-holds Inv-loop μ-loop
 loop-holds c = (omega arith, c .before .pre)
 
-shared-slice-read-of-byte : tie.Need-shared-slice-read-of-byte Inv-loop μ-loop
-shared-slice-read-of-byte c = omega arith
+mul-of-key : tie.Need-mul-of-key Inv-loop μ-loop
+mul-of-key c = omega arith
 
-of-byte-requires : tie.Need-of-byte-requires Inv-loop μ-loop
-of-byte-requires c κs = search needs
+shared-slice-read-of-key : tie.Need-shared-slice-read-of-key Inv-loop μ-loop
+shared-slice-read-of-key c = omega arith
+
+of-key-requires : tie.Need-of-key-requires Inv-loop μ-loop
+of-key-requires c κs = search needs
 
 folded-requires : tie.Need-folded-requires Inv-loop μ-loop
 folded-requires c κs = c .before .before .before .loop .inv .1
@@ -36,15 +39,16 @@ loop-again c = (omega arith, c .folded .ensures)
 returns : tie.Need-returns Inv-loop μ-loop
 returns c = c .before .loop .inv .1
 
-pub sum-with-journal-spec : {M : Type 1} → statement M
-sum-with-journal-spec =
+pub sum-with-tiles-spec : {M : Type 1} → statement M
+sum-with-tiles-spec =
     tie.close
     (tie.spec
     Inv-loop
     μ-loop
     loop-holds
-    shared-slice-read-of-byte
-    of-byte-requires
+    mul-of-key
+    shared-slice-read-of-key
+    of-key-requires
     folded-requires
     add-i
     loop-less

@@ -1,9 +1,9 @@
--- `checksum::sum_of_session` is safe and ends
+-- `looks::checksum::sum_of_session` is safe and ends
 use Prim.Native.Nat.{_-_, _<_, _≤_}
 use native.Mathlib.Omega.{arith}
 use borrow.Author.Needs.{needs}
-use Rattle.checksum.proofs.sum_of_session.Statement.{statement}
-use Rattle.checksum.proofs.sum_of_session.Tie as tie
+use Rattle.looks.proofs.checksum.sum_of_session.Statement.{statement}
+use Rattle.looks.proofs.checksum.sum_of_session.Tie as tie
 
 abbrev Inv-loop : tie.InvT-loop
 Inv-loop session sum₀ i₀ sum i = (i ≤ 64) × (sum < 4294967291)

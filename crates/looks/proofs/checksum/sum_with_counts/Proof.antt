@@ -1,24 +1,24 @@
--- `checksum::sum_with_operations` is safe and ends
+-- `looks::checksum::sum_with_counts` is safe and ends
 use Prim.Native.Nat.{_-_, _<_, _≤_}
 use native.Mathlib.Omega.{arith}
-use lib.ListN.{length}
-use Rattle.checksum.proofs.sum_with_operations.Statement.{statement}
-use Rattle.checksum.proofs.sum_with_operations.Tie as tie
+use borrow.Author.Needs.{needs}
+use Rattle.looks.proofs.checksum.sum_with_counts.Statement.{statement}
+use Rattle.looks.proofs.checksum.sum_with_counts.Tie as tie
 
 abbrev Inv-loop : tie.InvT-loop
-Inv-loop before operations sum₀ i₀ sum i = (i ≤ length operations) × (sum < 4294967291)
+Inv-loop before session sum₀ i₀ sum i = (i ≤ 11) × (sum < 4294967291)
 
 abbrev μ-loop : tie.MeasureT-loop
-μ-loop before operations sum₀ i₀ sum i = length operations - i
+μ-loop before session sum₀ i₀ sum i = 11 - i
 
 loop-holds : tie.Need-loop-holds Inv-loop μ-loop
-loop-holds c = (omega arith, c .before .pre)
+loop-holds c = (omega arith, c .pre)
 
 mul-folded : tie.Need-mul-folded Inv-loop μ-loop
 mul-folded c = omega arith
 
-shared-slice-read-folded : tie.Need-shared-slice-read-folded Inv-loop μ-loop
-shared-slice-read-folded c = omega arith
+element-copy-out-folded : tie.Need-element-copy-out-folded Inv-loop μ-loop
+element-copy-out-folded c = search needs
 
 folded-requires : tie.Need-folded-requires Inv-loop μ-loop
 folded-requires c κs = c .before .before .loop .inv .1
@@ -32,20 +32,24 @@ loop-less c = omega arith
 loop-again : tie.Need-loop-again Inv-loop μ-loop
 loop-again c = (omega arith, c .folded .ensures)
 
-returns : tie.Need-returns Inv-loop μ-loop
-returns c = c .before .loop .inv .1
+folded-requires-2 : tie.Need-folded-requires-2 Inv-loop μ-loop
+folded-requires-2 c κs = c .before .loop .inv .1
 
-pub sum-with-operations-spec : {M : Type 1} → statement M
-sum-with-operations-spec =
+returns : tie.Need-returns Inv-loop μ-loop
+returns c = c .folded2 .ensures
+
+pub sum-with-counts-spec : {M : Type 1} → statement M
+sum-with-counts-spec =
     tie.close
     (tie.spec
     Inv-loop
     μ-loop
     loop-holds
     mul-folded
-    shared-slice-read-folded
+    element-copy-out-folded
     folded-requires
     add-i
     loop-less
     loop-again
+    folded-requires-2
     returns)

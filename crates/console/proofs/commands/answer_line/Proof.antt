@@ -1,9 +1,9 @@
--- `desk::answer_line` meets its contract: only a lend changes how much is lent
+-- `console::commands::answer_line` meets its contract: only a lend changes how much is lent
 use mathlib.Core.Path.{sym}
 use lib.Seq.{length-take-le}
 use borrow.Author.Needs.{needs}
-use Rattle.desk.proofs.answer_line.Statement.{statement}
-use Rattle.desk.proofs.answer_line.Tie as tie
+use Rattle.console.proofs.commands.answer_line.Statement.{statement}
+use Rattle.console.proofs.commands.answer_line.Tie as tie
 
 parse-requires : tie.Need-parse-requires
 parse-requires c κs = search needs
