@@ -66,16 +66,26 @@ fn begin(
     }
 }
 
+// The procedure of a word that names one.
+fn procedure_of(word: Word) -> Procedure {
+    match word {
+        Word::Ins => Procedure::Ins,
+        Word::Del => Procedure::Del,
+        _ => Procedure::Mem,
+    }
+}
+
 fn operate(
-    procedure: Procedure,
     command: Command,
     session: Session,
     tiles: &mut [u32],
     operations: &mut [u64],
     journal: &mut [u8],
 ) -> Session {
+    let word = command.word;
     let job = job_of(command);
     let sheet = sheet_of(command);
+    let procedure = procedure_of(word);
     let address = operation_address(command);
     answered(sanbirogu::operation(
         session,
@@ -89,18 +99,44 @@ fn operate(
     ))
 }
 
+// What is done to each tile, of a word that names it.
+fn change_of(word: Word) -> Change {
+    match word {
+        Word::InsAll => Change::Insert,
+        _ => Change::Delete,
+    }
+}
+
 fn operate_all(
-    change: Change,
     command: Command,
     session: Session,
     tiles: &mut [u32],
     operations: &mut [u64],
     journal: &mut [u8],
 ) -> Session {
+    let word = command.word;
     let job = job_of(command);
     let sheet = sheet_of(command);
+    let change = change_of(word);
     let r = rectangle_of(command);
     answered_whole(sanbirogu::rectangle(session, tiles, operations, journal, job, sheet, change, r))
+}
+
+// Opens a job or ends it.
+fn open_or_end(
+    command: Command,
+    session: Session,
+    tiles: &mut [u32],
+    operations: &mut [u64],
+    journal: &mut [u8],
+) -> Session {
+    let word = command.word;
+    let job = job_of(command);
+    match word {
+        Word::Open => answered(sanbirogu::open(session, tiles, operations, journal, job)),
+        Word::Commit => answered(sanbirogu::commit(session, tiles, operations, journal, job)),
+        _ => answered(sanbirogu::abort(session, tiles, operations, journal, job)),
+    }
 }
 
 // Answers one command on what is lent.
@@ -112,17 +148,15 @@ pub fn answer(
     journal: &mut [u8],
 ) -> Session {
     let word = command.word;
-    let job = job_of(command);
     match word {
         Word::Start => begin(command, session, tiles, operations, journal),
-        Word::Open => answered(sanbirogu::open(session, tiles, operations, journal, job)),
-        Word::Ins => operate(Procedure::Ins, command, session, tiles, operations, journal),
-        Word::Del => operate(Procedure::Del, command, session, tiles, operations, journal),
-        Word::Mem => operate(Procedure::Mem, command, session, tiles, operations, journal),
-        Word::InsAll => operate_all(Change::Insert, command, session, tiles, operations, journal),
-        Word::DelAll => operate_all(Change::Delete, command, session, tiles, operations, journal),
-        Word::Commit => answered(sanbirogu::commit(session, tiles, operations, journal, job)),
-        Word::Abort => answered(sanbirogu::abort(session, tiles, operations, journal, job)),
+        Word::Open | Word::Commit | Word::Abort => {
+            open_or_end(command, session, tiles, operations, journal)
+        }
+        Word::Ins | Word::Del | Word::Mem => {
+            operate(command, session, tiles, operations, journal)
+        }
+        Word::InsAll | Word::DelAll => { operate_all(command, session, tiles, operations, journal) }
         _ => outside::change(command, session, tiles, operations, journal),
     }
 }
