@@ -1,12 +1,12 @@
--- `seams::play` meets its contract, which is only that it ends: each turn takes four bytes of the story
+-- `seams::playing::play` meets its contract, which is only that it ends: each turn takes four bytes of the story
 use mathlib.Core.Path.{_≡_}
 use Prim.Native.Nat.{_+_, _-_, _<_, _≤_}
 use native.Mathlib.Omega.{arith}
 use lib.ListN.{length}
 use denote.Ref.{now}
 use borrow.Author.Needs.{needs}
-use Rattle.seams.proofs.play.Statement.{statement}
-use Rattle.seams.proofs.play.Tie as tie
+use Rattle.seams.proofs.playing.play.Statement.{statement}
+use Rattle.seams.proofs.playing.play.Tie as tie
 
 abbrev Inv-loop : tie.InvT-loop
 Inv-loop name tiles₀ count operations₀ journal₀ story session₀ at₀ tiles operations journal session at =
