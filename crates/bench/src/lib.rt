@@ -46,24 +46,26 @@ fn give(
     let answered = outcome.reply;
     let told = sanbirogu::numbers(answered);
     let next = outcome.session;
-    let open = next.marks;
-    *marks = open;
-    parts[0] = next.tiles;
-    parts[1] = next.operations;
-    parts[2] = next.journal;
     let rule = next.rule;
-    parts[3] = rule_number(rule);
+    let open = next.marks;
     let counts = next.levels;
+    *marks = open;
+    *parts = [
+        next.tiles,
+        next.operations,
+        next.journal,
+        rule_number(rule),
+        next.spoken,
+    ];
     *levels = counts;
-    parts[4] = next.spoken;
-    reply[0] = told.number as i32;
-    reply[1] = told.answer as i32;
-    reply[2] = told.holder as i32;
-    reply[3] = told.sheet as i32;
-    let turns = told.turns;
-    let last = told.last;
-    reply[4] = turns;
-    reply[5] = last;
+    *reply = [
+        told.number as i32,
+        told.answer as i32,
+        told.holder as i32,
+        told.sheet as i32,
+        told.turns,
+        told.last,
+    ];
 }
 
 // The procedure of a number: 1 for ins, 2 for del, and mem for all others.
@@ -248,8 +250,10 @@ pub extern "C" fn bench_replay(
 ) {
     let replayed = sanbirogu::replay(journal, tiles, count, operations);
     let stop = replayed.stop;
-    reply[0] = sanbirogu::stop_number(stop) as u64;
-    reply[1] = replayed.offset as u64;
-    reply[2] = replayed.undone as u64;
-    reply[3] = replayed.tiles as u64;
+    *reply = [
+        sanbirogu::stop_number(stop) as u64,
+        replayed.offset as u64,
+        replayed.undone as u64,
+        replayed.tiles as u64,
+    ];
 }

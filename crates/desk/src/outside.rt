@@ -63,11 +63,15 @@ fn with_mark(session: Session, job: usize, bit: usize) -> Session {
     changed
 }
 
-fn with_counts(session: Session, tiles: usize, operations: usize, journal: usize) -> Session {
+// The count that a word names, set.
+fn with_count(session: Session, word: Word, count: usize) -> Session {
     let mut changed = session;
-    changed.tiles = tiles;
-    changed.operations = operations;
-    changed.journal = journal;
+    match word {
+        Word::Tiles => changed.tiles = count,
+        Word::Operations => changed.operations = count,
+        Word::Journal => changed.journal = count,
+        _ => changed.spoken = count,
+    }
     agree();
     changed
 }
@@ -111,13 +115,6 @@ fn with_level(session: Session, zoom: usize, count: usize) -> Session {
     changed
 }
 
-fn with_spoken(session: Session, count: usize) -> Session {
-    let mut changed = session;
-    changed.spoken = count;
-    agree();
-    changed
-}
-
 pub fn change(
     command: Command,
     session: Session,
@@ -132,13 +129,12 @@ pub fn change(
         Word::Tile => put_tile(tiles, place, (value % 4294967296) as u32),
         Word::Entry => put_entry(operations, place, value),
         Word::Byte => put_byte(journal, place, byte_of(value)),
-        Word::Tiles => return with_counts(session, place, session.operations, session.journal),
-        Word::Operations => return with_counts(session, session.tiles, place, session.journal),
-        Word::Journal => return with_counts(session, session.tiles, session.operations, place),
+        Word::Tiles | Word::Operations | Word::Journal | Word::Spoken => {
+            return with_count(session, word, place)
+        }
         Word::Mark => return with_mark(session, place, value as usize),
         Word::Rule => return with_rule(session, place),
         Word::Level => return with_level(session, place, value as usize),
-        Word::Spoken => return with_spoken(session, place),
         _ => refuse(),
     }
     session
