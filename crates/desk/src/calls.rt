@@ -153,10 +153,8 @@ pub fn answer(
         Word::Open | Word::Commit | Word::Abort => {
             open_or_end(command, session, tiles, operations, journal)
         }
-        Word::Ins | Word::Del | Word::Mem => {
-            operate(command, session, tiles, operations, journal)
-        }
-        Word::InsAll | Word::DelAll => { operate_all(command, session, tiles, operations, journal) }
+        Word::Ins | Word::Del | Word::Mem => operate(command, session, tiles, operations, journal),
+        Word::InsAll | Word::DelAll => operate_all(command, session, tiles, operations, journal),
         _ => outside::change(command, session, tiles, operations, journal),
     }
 }
