@@ -7,5 +7,3 @@ pub mod Theorems
 pub mod Demands
 pub mod Replays
 pub mod Once
-pub mod Examples
-pub mod Printed

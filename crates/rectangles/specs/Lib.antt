@@ -4,4 +4,3 @@ pub mod Fitting
 pub mod Laws
 pub mod Theorems
 pub mod Once
-pub mod Cases

@@ -10,7 +10,7 @@ use Rattle.strict.specs.declared.Procedure.the-variants.{Ins, Mem}
 use Rattle.strict.specs.declared.Rule.{Rule}
 use Rattle.strict.specs.declared.Rule.the-variants.{Alone, Together}
 use Rattle.service.specs.Calls.{concluded, startCall}
-use Rattle.service.specs.Cases.{A, Exchange, _↝_, a, b, from, okA, okB, worldAfter}
+use Rattle.cases.specs.Seams.{A, Exchange, _↝_, a, b, from, okA, okB, worldAfter}
 use Rattle.service.specs.History.{opening, operating}
 use Rattle.service.specs.Journal.{encode, ruleBytes}
 use Rattle.service.specs.Levels.{levelsOf}

@@ -9,7 +9,7 @@ use Rattle.strict.specs.declared.Procedure.the-variants.{Ins}
 use Rattle.strict.specs.declared.Rule.the-variants.{Alone, Together}
 use Rattle.strict.specs.declared.Rule.{Rule}
 use Rattle.service.specs.Calls.{concluded, startCall}
-use Rattle.service.specs.Cases.{address, from, heldBy1, okA, okB}
+use Rattle.cases.specs.Seams.{address, from, heldBy1, okA, okB}
 use Rattle.service.specs.History.{aborting, committing, opening, operating}
 use Rattle.service.specs.Journal.{encode}
 use Rattle.service.specs.Levels.{levelsOf}
