@@ -73,6 +73,10 @@ fn own_tiles() {
         0,
         b"1(  2(  1+A 1-A 2?A 1)  2?A ",
     );
+}
+
+// And a place that it has freed is its own.
+fn own_room() {
     tell_together(
         b"Rule 2, one place, replace A",
         1,
@@ -145,5 +149,6 @@ fn main() {
     two_jobs();
     one_place();
     own_tiles();
+    own_room();
     refusals();
 }
