@@ -1,7 +1,6 @@
 //! What the second rule asks of the entries, each requirement on its own, and by all checks.
 
-mod common;
-
+use crate::common::*;
 use baseline::chains::taken_back;
 use baseline::entry::{entry, job, key, kind, origin};
 use baseline::rule::Rule;
@@ -9,7 +8,6 @@ use baseline::soundness::Check;
 use baseline::workload::counts::recount;
 use baseline::workload::packs::{employ_idle_job, Sort, IDLE_JOB};
 use baseline::workload::world::Call;
-use common::*;
 
 /// The entries of small tables, as kind and job, all on the tile A.
 type Chain = &'static [(u64, u8)];

@@ -1,8 +1,7 @@
 //! All four checks say the same, and what the paper says, on sound and on damaged tables by both
 //! rules.
 
-mod common;
-
+use crate::common::*;
 use baseline::entry::{entry, key, kind};
 use baseline::reply::{numbers, Refusal};
 use baseline::rule::Rule;
@@ -13,7 +12,6 @@ use baseline::workload::histories::{any_next_call, recorded, small_world, Record
 use baseline::workload::packs::{employ_idle_job, Sort, IDLE_JOB};
 use baseline::workload::random::Random;
 use baseline::workload::world::{Call, World};
-use common::*;
 
 /// Two tiles in three places; job 1 has inserted the first and job 2 deleted another.
 fn sound_case() -> Case {

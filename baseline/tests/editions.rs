@@ -1,7 +1,6 @@
 //! Editions: a row counted from the south is the same tile, and everything else stays.
 
-mod common;
-
+use crate::common::*;
 use baseline::rectangle::{Change, Rectangle};
 use baseline::reply::{numbers, Refusal};
 use baseline::rule::Rule;
@@ -11,7 +10,6 @@ use baseline::workload::histories::{any_call, small_world};
 use baseline::workload::random::Random;
 use baseline::workload::rectangles::level_of;
 use baseline::workload::world::Call;
-use common::*;
 use std::collections::BTreeSet;
 
 const SOUTHERN: Address = Address {

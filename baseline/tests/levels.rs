@@ -1,8 +1,7 @@
 //! The counts of levels and of places spoken for: every call keeps them as a fresh count gives
 //! them.
 
-mod common;
-
+use crate::common::*;
 use baseline::levels::{counted, hold_by_pass, hold_by_stretches, Levels, LEVELS};
 use baseline::rectangle::Change;
 use baseline::reply::Refusal;
@@ -15,7 +14,6 @@ use baseline::workload::packs::{employ_idle_job, Sort, IDLE_JOB};
 use baseline::workload::random::Random;
 use baseline::workload::rectangles::roomy_pack;
 use baseline::workload::world::{Call, World};
-use common::*;
 use std::collections::BTreeSet;
 
 fn assert_fresh(world: &World, after: Call) {

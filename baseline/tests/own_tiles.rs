@@ -1,12 +1,10 @@
 //! The second rule, case by case: a job may go on with the tiles that it changed.
 
-mod common;
-
+use crate::common::*;
 use baseline::entry::kind;
 use baseline::reply::Refusal;
 use baseline::rule::Rule;
 use baseline::tile::Address;
-use common::*;
 
 const NO_ROOM: Refusal = Refusal::NoTileRoom;
 

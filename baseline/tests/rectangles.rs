@@ -1,7 +1,6 @@
 //! Rectangles: each number in its place, both sides of every bound, and what is written.
 
-mod common;
-
+use crate::common::*;
 use baseline::entry::{key, kind, origin};
 use baseline::rectangle::{Change, Rectangle, MOST_LISTED};
 use baseline::reply::Refusal;
@@ -10,7 +9,6 @@ use baseline::tile::{Address, FROM_NORTH, FROM_SOUTH};
 use baseline::workload::packs::IDLE_JOB;
 use baseline::workload::rectangles::{level_of, roomy_pack};
 use baseline::workload::world::Call;
-use common::*;
 
 const LAST: i32 = i32::MAX;
 const FIRST: i32 = i32::MIN;

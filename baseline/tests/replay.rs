@@ -1,7 +1,6 @@
 //! A replay leaves what the calls that wrote the journal leave, and stops where the paper says.
 
-mod common;
-
+use crate::common::*;
 use baseline::journal::{read, Reading, Record, OPERATION_RECORD};
 use baseline::replay::{Replayed, Stop};
 use baseline::rule::Rule;
@@ -10,7 +9,6 @@ use baseline::workload::histories::{any_call, small_world};
 use baseline::workload::journals::{write_full, Load};
 use baseline::workload::random::Random;
 use baseline::workload::world::{Call, World};
-use common::*;
 
 const EXAMPLE: [u8; 32] = [
     1, 0, 1, 3, 2, 0, 7, 3, 1, 1, 0x40, 3, 0xC0, 5, 3, 0, 1, 3, 1, 0, 1, 4, 2, 0, 7, 4, 2, 1, 0x40,

@@ -1,14 +1,12 @@
 //! The first number of its list that applies is given, rooms are exact to the byte, and records are as the
 //! paper writes them.
 
-mod common;
-
+use crate::common::*;
 use baseline::journal::Procedure;
 use baseline::reply::Refusal;
 use baseline::rule::Rule;
 use baseline::tile::{Address, FROM_SOUTH};
 use baseline::workload::world::Call;
-use common::*;
 
 const NOWHERE: Address = Address {
     edition: 3,

@@ -1,11 +1,9 @@
 //! The seam cases of the paper, its addresses and its table of commutativity.
 
-mod common;
-
+use crate::common::*;
 use baseline::entry::{commutes, DELETED, INSERTED};
 use baseline::reply::Refusal;
 use baseline::tile::{is_key, Address};
-use common::*;
 
 #[test]
 fn a_second_job_may_not_insert_what_is_unfinished() {

@@ -1,7 +1,6 @@
 //! Sheets: a hold names one, a record may have one, and nothing else depends on them.
 
-mod common;
-
+use crate::common::*;
 use baseline::entry::{entry, job, key, kind, Origin};
 use baseline::journal::{read, Procedure, Reading, Record, OPERATION_RECORD};
 use baseline::replay::Stop;
@@ -11,7 +10,6 @@ use baseline::workload::histories::{any_call, small_world};
 use baseline::workload::journals::with_older_records;
 use baseline::workload::random::Random;
 use baseline::workload::world::{Call, World};
-use common::*;
 
 #[test]
 fn a_hold_names_the_sheet_of_the_first_holder() {

@@ -1,12 +1,10 @@
 //! Starts by both rules: by what they are refused, what they write and what they leave.
 
-mod common;
-
+use crate::common::*;
 use baseline::reply::Refusal;
 use baseline::rule::Rule;
 use baseline::session::Session;
 use baseline::workload::world::{Call, World};
-use common::*;
 
 /// One tile, and tables in which nothing else is 0.
 fn used_case() -> Case {

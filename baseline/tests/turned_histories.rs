@@ -1,7 +1,6 @@
 //! Turns in random histories, which go round the world both ways as far as a column can.
 
-mod common;
-
+use crate::common::C;
 use baseline::reply::numbers;
 use baseline::rule::Rule;
 use baseline::soundness::Check;
@@ -9,7 +8,6 @@ use baseline::tile::Address;
 use baseline::workload::histories::{any_call, small_world};
 use baseline::workload::random::Random;
 use baseline::workload::world::Call;
-use common::C;
 use std::collections::BTreeSet;
 
 /// A call, and the turns that it told.

@@ -1,7 +1,6 @@
 //! Turns: how often a column goes round the world, and which replies tell it.
 
-mod common;
-
+use crate::common::*;
 use baseline::journal::Procedure;
 use baseline::rectangle::{Change, Rectangle};
 use baseline::reply::numbers;
@@ -9,7 +8,6 @@ use baseline::rule::Rule;
 use baseline::tile::Address;
 use baseline::workload::histories::PROCEDURES;
 use baseline::workload::world::{Call, World};
-use common::*;
 use std::ops::RangeInclusive;
 
 const LEVELS: RangeInclusive<u8> = 4..=14;

@@ -1,7 +1,6 @@
 //! A rectangle is its operations, one after another, or it is refused as a whole.
 
-mod common;
-
+use crate::common::*;
 use baseline::entry::Origin;
 use baseline::rectangle::{Change, Rectangle};
 use baseline::reply::{numbers, Done, Refusal, Reply};
@@ -13,7 +12,6 @@ use baseline::workload::packs::IDLE_JOB;
 use baseline::workload::random::Random;
 use baseline::workload::rectangles::roomy_pack;
 use baseline::workload::world::{Call, World};
-use common::*;
 
 /// A rectangle for a job.
 #[derive(Clone, Copy)]

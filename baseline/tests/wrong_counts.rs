@@ -1,7 +1,6 @@
 //! Where the count of a level or of the places spoken for is wrong, no call is made.
 
-mod common;
-
+use crate::common::*;
 use baseline::levels::LEVELS;
 use baseline::reply::Refusal;
 use baseline::rule::Rule;
@@ -10,7 +9,6 @@ use baseline::workload::damage::damage;
 use baseline::workload::packs::Sort;
 use baseline::workload::random::Random;
 use baseline::workload::world::{Call, World};
-use common::*;
 use std::collections::BTreeSet;
 
 /// Every session with one count that is not right, and those in which two levels are wrong that

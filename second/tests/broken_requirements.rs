@@ -1,8 +1,6 @@
 //! Each requirement of soundness broken alone, by both rules, and the last numbers that keep it.
 
-mod common;
-
-use common::*;
+use crate::common::*;
 use second::address::Address;
 use second::operation::Procedure;
 use second::rule::{Rule, RULES};

@@ -1,8 +1,6 @@
 //! The table of the scope paper, the rule of the service and Definition 2 of the report agree.
 
-mod common;
-
-use common::{tile, A, B, TABLE};
+use crate::common::{tile, A, B, TABLE};
 use second::operation::{Admitted, Kind, Origin, Procedure, Recovery, KINDS};
 use second::strictness::{commutes, inverse, step_on, Step, Tiles};
 

@@ -1,8 +1,6 @@
 //! The console page, to the byte: talks by hand.
 
-mod common;
-
-use common::talk::holds;
+use crate::common::talk::holds;
 
 #[test]
 fn a_session_by_hand() {

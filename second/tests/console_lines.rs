@@ -1,8 +1,6 @@
 //! The console page, to the byte: what is a line and what is none, and the lines for a person.
 
-mod common;
-
-use common::talk::talk;
+use crate::common::talk::talk;
 use second::console::Console;
 use second::line::parse;
 use second::picture::COMMANDS;

@@ -1,8 +1,6 @@
 //! The sums of the console page, of everything and of a mended journal.
 
-mod common;
-
-use common::talk::{holds, talk};
+use crate::common::talk::{holds, talk};
 
 /// The sum of a list of numbers, by the console page.
 fn sum_of(numbers: &[u128]) -> u128 {

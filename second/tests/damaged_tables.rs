@@ -1,9 +1,7 @@
 //! Tables damaged in any way: refusals leave everything, accepted calls leave sound tables.
 
-mod common;
-
-use common::tables::{any_call, damage, some_bench, some_count};
-use common::*;
+use crate::common::tables::{any_call, damage, some_bench, some_count};
+use crate::common::*;
 use second::random::Random;
 use second::replay::replay;
 use second::rule::Rule;

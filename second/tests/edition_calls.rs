@@ -1,10 +1,8 @@
 //! A call of edition 1 is the call of edition 2 with its rows turned: the same reply, and the same
 //! session and buffers to the byte, so that keys, journals and replays hold north rows only.
 
-mod common;
-
-use common::turns::{columns_of, LEVELS};
-use common::*;
+use crate::common::turns::{columns_of, LEVELS};
+use crate::common::*;
 use second::address::Address;
 use second::operation::PROCEDURES;
 use second::rectangle::{Rectangle, Sweep, SWEEPS};

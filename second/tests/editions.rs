@@ -1,8 +1,6 @@
 //! Rows from the south: the two editions of an address, by the address step.
 
-mod common;
-
-use common::turns::{columns_of, LEVELS};
+use crate::common::turns::{columns_of, LEVELS};
 use second::address::{address_step, Address};
 use second::random::Random;
 use std::collections::BTreeSet;

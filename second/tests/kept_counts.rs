@@ -1,10 +1,8 @@
 //! The counts that a session keeps: what a start makes of them, how each call moves them, and that
 //! after every call of small worlds they are what the definitions count.
 
-mod common;
-
-use common::counts::KeptCounts;
-use common::*;
+use crate::common::counts::KeptCounts;
+use crate::common::*;
 use second::address::Address;
 use second::operation::PROCEDURES;
 use second::rectangle::{Rectangle, Sweep, SWEEPS};

@@ -1,9 +1,7 @@
 //! Ends of jobs with many entries, as the scripts have them: an abort leaves the tiles as if the job
 //! had never been, a commit leaves them as they stand, and both leave the other jobs' entries alone.
 
-mod common;
-
-use common::*;
+use crate::common::*;
 use second::console::Console;
 use second::line::{parse, Call, Command};
 use second::rule::RULES;

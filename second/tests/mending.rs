@@ -1,8 +1,6 @@
 //! Mending: what is copied and added, the exact bounds of 18, and every kind of stop.
 
-mod common;
-
-use common::*;
+use crate::common::*;
 use second::journal::{Reader, Reading, Record};
 use second::journals::{journal, KINDS};
 use second::mend::{mend, Mended};

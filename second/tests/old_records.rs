@@ -1,10 +1,8 @@
 //! The two forms of operation records: an old one, of tag 2, is taken just as one of tag 6 with
 //! sheet 0, and a sheet decides nothing.
 
-mod common;
-
-use common::tables::{damage, some_bench};
-use common::{tile, A, B};
+use crate::common::tables::{damage, some_bench};
+use crate::common::{tile, A, B};
 use second::journal::{Reader, Reading, Record, Recorded};
 use second::journals::{journal, KINDS};
 use second::operation::PROCEDURES;

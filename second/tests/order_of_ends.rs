@@ -1,11 +1,9 @@
 //! Ending jobs in another order: every order of the same commits and aborts leaves the same tiles,
 //! operations, marks and counts, those of the levels among them, and journals that differ in the order of the end records alone.
 
-mod common;
-
-use common::history::Trial;
-use common::tables::some_bench;
-use common::*;
+use crate::common::history::Trial;
+use crate::common::tables::some_bench;
+use crate::common::*;
 use second::random::Random;
 use second::rule::{Rule, RULES};
 use second::soundness::{is_change, job_of, key_of};

@@ -1,8 +1,6 @@
 //! Rule 2, case by case: a job may go on with the tiles that it changed.
 
-mod common;
-
-use common::*;
+use crate::common::*;
 use second::address::Address;
 use second::operation::Procedure;
 use second::rule::Rule;

@@ -1,8 +1,6 @@
 //! The reader: whole, end, cut and malformed by the exact rule.
 
-mod common;
-
-use common::{tile, A};
+use crate::common::{tile, A};
 use second::journal::{Reader, Reading, Record, Recorded};
 use second::operation::{Procedure, PROCEDURES};
 use second::random::Random;

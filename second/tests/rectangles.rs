@@ -1,8 +1,6 @@
 //! The list of a rectangle, the exact bounds of what is taken, and the order of the refusals.
 
-mod common;
-
-use common::*;
+use crate::common::*;
 use second::address::Address;
 use second::journal::{Reader, Reading, Record, Recorded};
 use second::random::Random;

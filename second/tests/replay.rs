@@ -1,8 +1,6 @@
 //! Replay: refusals, what stops it, and that it leaves what the cut journal leaves.
 
-mod common;
-
-use common::*;
+use crate::common::*;
 use second::journals::journal;
 use second::replay::{replay, Replayed};
 

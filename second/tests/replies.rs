@@ -1,8 +1,6 @@
 //! The order of the replies and the exact room at which they turn.
 
-mod common;
-
-use common::*;
+use crate::common::*;
 use second::address::Address;
 use second::rectangle::{Rectangle, Sweep};
 use second::rule::{Rule, RULES};

@@ -1,8 +1,6 @@
 //! The seam cases and the shortcuts to keep out.
 
-mod common;
-
-use common::*;
+use crate::common::*;
 use second::address::Address;
 use second::journal::{Reader, Reading};
 

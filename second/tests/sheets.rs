@@ -1,10 +1,8 @@
 //! Sheets: calls that differ in their sheets alone are told the same and do the same, a held reply
 //! names the sheet of the first holder, and every sheet is sound.
 
-mod common;
-
-use common::tables::{damage, some_address, some_bench};
-use common::*;
+use crate::common::tables::{damage, some_address, some_bench};
+use crate::common::*;
 use second::address::Address;
 use second::journal::{Reader, Reading, Record};
 use second::journals::some_sheet;

@@ -1,11 +1,9 @@
 //! On every sound session, however it came about, an operation is answered and done as the papers'
 //! words say of the plain numbers, by both rules.
 
-mod common;
-
-use common::counts::KeptCounts;
-use common::tables::{damage, some_address, some_bench};
-use common::*;
+use crate::common::counts::KeptCounts;
+use crate::common::tables::{damage, some_address, some_bench};
+use crate::common::*;
 use second::address::Address;
 use second::journals::some_sheet;
 use second::operation::{Origin, Procedure, PROCEDURES};

@@ -1,8 +1,6 @@
 //! Starts by both rules: what they decide by, what they write and what they leave.
 
-mod common;
-
-use common::*;
+use crate::common::*;
 use second::rule::{Rule, RULES};
 use second::service;
 use second::session::{Session, Tables};

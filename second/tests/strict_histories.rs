@@ -1,10 +1,8 @@
 //! Random small histories by both rules against the report's definition, over all choices; and the
 //! journal of each history, in both forms of records, cut at every byte, replayed and mended.
 
-mod common;
-
-use common::cuts::Chronicle;
-use common::history::{most_done, Tally, Trial};
+use crate::common::cuts::Chronicle;
+use crate::common::history::{most_done, Tally, Trial};
 use second::random::Random;
 use second::rule::Rule;
 

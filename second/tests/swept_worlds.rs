@@ -1,9 +1,7 @@
 //! A rectangle is its operations, called one after another: on every sound session, by both rules.
 
-mod common;
-
-use common::tables::{damage, some_bench};
-use common::*;
+use crate::common::tables::{damage, some_bench};
+use crate::common::*;
 use second::address::Address;
 use second::journals::some_sheet;
 use second::operation::Origin;

@@ -1,9 +1,7 @@
 //! The replies that carry turns, and those that carry none.
 
-mod common;
-
-use common::turns::{columns_near_edges, span_of, turns_of, LEVELS};
-use common::*;
+use crate::common::turns::{columns_near_edges, span_of, turns_of, LEVELS};
+use crate::common::*;
 use second::address::Address;
 use second::operation::{Procedure, PROCEDURES};
 use second::rectangle::{Rectangle, Sweep, SWEEPS};

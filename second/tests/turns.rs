@@ -1,9 +1,7 @@
 //! How far round: the whole turns of a column, by the address step.
 
-mod common;
-
-use common::talk::holds;
-use common::turns::{columns_near_edges, columns_of, fitting_turns, turns_of, LEVELS};
+use crate::common::talk::holds;
+use crate::common::turns::{columns_near_edges, columns_of, fitting_turns, turns_of, LEVELS};
 use second::address::{address_step, Address};
 use second::random::Random;
 

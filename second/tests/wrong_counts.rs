@@ -1,10 +1,8 @@
 //! A kept count that is wrong, with every table as it should be: each call is refused by 1 and
 //! changes nothing, and is done once the count is mended.
 
-mod common;
-
-use common::turns::LEVELS;
-use common::*;
+use crate::common::turns::LEVELS;
+use crate::common::*;
 use second::address::Address;
 use second::operation::Procedure;
 use second::rectangle::{Rectangle, Sweep};

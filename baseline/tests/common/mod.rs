@@ -1,5 +1,4 @@
 //! A world with its jobs 1 and 2 open, and calls by short names.
-#![allow(dead_code)]
 
 use baseline::entry::Origin;
 use baseline::journal::Procedure;

@@ -122,6 +122,23 @@ fn operate_all(
     answered_whole(sanbirogu::rectangle(session, tiles, operations, journal, job, sheet, change, r))
 }
 
+// Opens a job, or ends it.
+fn call_job(
+    command: Command,
+    session: Session,
+    tiles: &mut [u32],
+    operations: &mut [u64],
+    journal: &mut [u8],
+) -> Outcome {
+    let word = command.word;
+    let job = job_of(command);
+    match word {
+        Word::Abort => sanbirogu::abort(session, tiles, operations, journal, job),
+        Word::Commit => sanbirogu::commit(session, tiles, operations, journal, job),
+        _ => sanbirogu::open(session, tiles, operations, journal, job),
+    }
+}
+
 // Answers one command on what is lent.
 pub fn answer(
     command: Command,
@@ -131,12 +148,11 @@ pub fn answer(
     journal: &mut [u8],
 ) -> Session {
     let word = command.word;
-    let job = job_of(command);
     match word {
         Word::Start => begin(command, session, tiles, operations, journal),
-        Word::Open => answered(sanbirogu::open(session, tiles, operations, journal, job)),
-        Word::Commit => answered(sanbirogu::commit(session, tiles, operations, journal, job)),
-        Word::Abort => answered(sanbirogu::abort(session, tiles, operations, journal, job)),
+        Word::Open | Word::Commit | Word::Abort => {
+            answered(call_job(command, session, tiles, operations, journal))
+        }
         Word::Ins | Word::Del | Word::Mem => operate(command, session, tiles, operations, journal),
         Word::InsAll | Word::DelAll => operate_all(command, session, tiles, operations, journal),
         _ => outside::change(command, session, tiles, operations, journal),

@@ -53,7 +53,7 @@ fn is_word(line: &[u8], end: usize, word: &[u8]) -> bool {
     true
 }
 
-// The words of the calls, of the reader and of what only shows.
+// The words of the calls on a session, and then all others.
 pub fn call_word(line: &[u8], end: usize) -> Word {
     if is_word(line, end, b"lend") {
         return Word::Lend;
@@ -70,6 +70,30 @@ pub fn call_word(line: &[u8], end: usize) -> Word {
     if is_word(line, end, b"abort") {
         return Word::Abort;
     }
+    procedure_word(line, end)
+}
+
+fn procedure_word(line: &[u8], end: usize) -> Word {
+    if is_word(line, end, b"ins") {
+        return Word::Ins;
+    }
+    if is_word(line, end, b"del") {
+        return Word::Del;
+    }
+    if is_word(line, end, b"mem") {
+        return Word::Mem;
+    }
+    if is_word(line, end, b"insall") {
+        return Word::InsAll;
+    }
+    if is_word(line, end, b"delall") {
+        return Word::DelAll;
+    }
+    look_word(line, end)
+}
+
+// The words of what leaves tables and session as they are.
+fn look_word(line: &[u8], end: usize) -> Word {
     if is_word(line, end, b"address") {
         return Word::Address;
     }
@@ -94,30 +118,11 @@ pub fn call_word(line: &[u8], end: usize) -> Word {
     if is_word(line, end, b"help") {
         return Word::Help;
     }
-    procedure_word(line, end)
+    table_word(line, end)
 }
 
-fn procedure_word(line: &[u8], end: usize) -> Word {
-    if is_word(line, end, b"ins") {
-        return Word::Ins;
-    }
-    if is_word(line, end, b"del") {
-        return Word::Del;
-    }
-    if is_word(line, end, b"mem") {
-        return Word::Mem;
-    }
-    if is_word(line, end, b"insall") {
-        return Word::InsAll;
-    }
-    if is_word(line, end, b"delall") {
-        return Word::DelAll;
-    }
-    change_word(line, end)
-}
-
-// The words of what changes the tables or the session from outside.
-fn change_word(line: &[u8], end: usize) -> Word {
+// The words of what changes a table from outside, and then the session.
+fn table_word(line: &[u8], end: usize) -> Word {
     if is_word(line, end, b"tile") {
         return Word::Tile;
     }
@@ -127,6 +132,10 @@ fn change_word(line: &[u8], end: usize) -> Word {
     if is_word(line, end, b"byte") {
         return Word::Byte;
     }
+    session_word(line, end)
+}
+
+fn session_word(line: &[u8], end: usize) -> Word {
     if is_word(line, end, b"tiles") {
         return Word::Tiles;
     }

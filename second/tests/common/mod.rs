@@ -1,8 +1,6 @@
 //! A started session with its tables, and short names for the calls. Each of them compares the
 //! turns of its reply with those that are due, and gives the rest of it.
 
-#![allow(dead_code)]
-
 pub mod counts;
 pub mod cuts;
 pub mod expected;

@@ -1,0 +1,35 @@
+//! The tests, one program: a program for each file takes three times as long to build.
+
+mod address;
+mod broken_requirements;
+mod common;
+mod commutativity;
+mod console;
+mod console_lines;
+mod console_sums;
+mod damaged_tables;
+mod edition_calls;
+mod editions;
+mod generators;
+mod kept_counts;
+mod large_ends;
+mod mending;
+mod old_records;
+mod order_of_ends;
+mod own_tiles;
+mod printed_replay;
+mod programs;
+mod reader;
+mod rectangles;
+mod replay;
+mod replies;
+mod seam_cases;
+mod sheets;
+mod sound_worlds;
+mod starts;
+mod strict_histories;
+mod swept_worlds;
+mod talk;
+mod told_turns;
+mod turns;
+mod wrong_counts;
