@@ -1,4 +1,4 @@
-//! The tests, one program: a program for each file takes three times as long to build.
+//! The tests, one program: a program for each file takes twice as long to build.
 
 mod address;
 mod broken_requirements;

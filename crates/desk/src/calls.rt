@@ -122,7 +122,7 @@ fn operate_all(
     answered_whole(sanbirogu::rectangle(session, tiles, operations, journal, job, sheet, change, r))
 }
 
-// Opens a job, or ends it.
+// Opens a job, or ends it: only the words `open`, `commit` and `abort` come here.
 fn call_job(
     command: Command,
     session: Session,
