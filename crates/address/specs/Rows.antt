@@ -3,7 +3,7 @@ use Rattle.std.specs.Prelude.{Bool, ◌&&◌, cond, false, true, ◌≢◌, ◌�
 use Rattle.std.proofs.Math.Option.{none, some}
 use Rattle.std.proofs.Common.{◌∙◌, ap, sym, arith, pow_pos, eq-eqb, le-leb, leb-true, lt-ltb, ltb-true, ne_eqb}
 use Rattle.lists.specs.Truth.{and_both, both, never}
-use Rattle.grid.specs.Laws.Keys.{has_key, turned_back, turned_inside}
+use Rattle.grid.proofs.Laws.Keys.{has_key, turned_back, turned_inside}
 use Rattle.grid.specs.Limits.{highest_zoom, lowest_zoom, south_edition}
 use Rattle.grid.specs.Tile.{address_call, around, is_edition, key_at, key_of, north_row, pack_key, placed_at, turned_row, turns_in, unplaced_by}
 use Rattle.grid.specs.declared.Address.{Address}

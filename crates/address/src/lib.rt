@@ -17,7 +17,7 @@ fn is_edition(edition: u8) -> bool
 }
 
 // A level of the map: 2^zoom columns, counted eastward from 180 degrees west, and as many rows from the north.
-#[derive(Drop)]
+#[derive(Clone, Copy)]
 pub struct Level {
     pub zoom: u8,
 }

@@ -8,12 +8,12 @@ use Rattle.std.proofs.lemmas.List.{length-map}
 use Rattle.entries.specs.Table.{EntryTable}
 use Rattle.service.specs.Admission.{State}
 use Rattle.service.specs.Entry.{op_in}
-use Rattle.service.specs.Laws.Storing.{padded_zeros}
+use Rattle.service.proofs.Laws.Storing.{padded_zeros}
 use Rattle.service.specs.Sound.{Tabled}
 use Rattle.service.specs.World.{World, state, used_operations, used_tiles}
 use Rattle.strict.specs.Book.{counted, held_by, needs_place, places_taken}
 use Rattle.strict.specs.Commutativity.{Signature}
-use Rattle.strict.specs.Laws.Room.{room_either}
+use Rattle.strict.proofs.Laws.Room.{room_either}
 use Rattle.strict.specs.Operations.{begun}
 use Rattle.strict.specs.declared.Procedure.{Procedure}
 use Rattle.search.specs.Laws.{zeros_table}

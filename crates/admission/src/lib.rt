@@ -13,7 +13,7 @@ use strict::Procedure;
 use tiles::Spot;
 
 // Whether an operation is admitted, and what the search for its tile found; and if not, why.
-#[derive(Drop)]
+#[derive(Clone, Copy)]
 pub enum Verdict {
     Admitted(Spot),
     Held { job: u8, sheet: u16 },

@@ -7,7 +7,7 @@ use native.Mathlib.Omega.{arith}
 use lib.ListN.{get_or, length, take}
 use Rattle.lists.specs.Lists.{padded}
 use Rattle.service.specs.Entry.{job_in}
-use Rattle.service.specs.Laws.Storing.{length_padded, used_padded}
+use Rattle.service.proofs.Laws.Storing.{length_padded, used_padded}
 use Rattle.levels.specs.Tally.{tally_of}
 use Rattle.levels.specs.declared.Tally.{Tally}
 use Rattle.search.specs.Laws.{padded_table}

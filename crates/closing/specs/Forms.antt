@@ -6,12 +6,12 @@ use Rattle.lists.specs.Lists.{All, padded}
 use Rattle.lists.specs.Truth.{by_cond}
 use Rattle.strict.specs.Book.{others, recover, spoken_by, spoken_of}
 use Rattle.strict.specs.Histories.{abort, commit, mine}
-use Rattle.strict.specs.Laws.Released.{spoken_abort, spoken_commit}
+use Rattle.strict.proofs.Laws.Released.{spoken_abort, spoken_commit}
 use Rattle.grid.specs.Levels.{levels_of}
 use Rattle.service.specs.Admission.{perform}
 use Rattle.service.specs.Calls.{with_state}
 use Rattle.service.specs.Entry.{entry_of, job_in, op_in}
-use Rattle.service.specs.Laws.Entries.{entries_back}
+use Rattle.service.proofs.Laws.Entries.{entries_back}
 use Rattle.service.specs.Sound.{Entry, Tabled}
 use Rattle.service.specs.World.{World, state, used_operations, used_tiles, world}
 use Rattle.service.specs.declared.Session.{Session}

@@ -8,7 +8,7 @@ use desk::Desk;
 mod commands;
 
 // How far the input is answered: a place in what was read, and how many lines may still come.
-#[derive(Drop)]
+#[derive(Clone, Copy)]
 struct Progress {
     desk: Desk,
     at: usize,

@@ -11,14 +11,14 @@ use Rattle.grid.specs.Tile.{is_key}
 use Rattle.service.specs.Calls.{end_refusals}
 use Rattle.service.specs.Claims.{Serves}
 use Rattle.service.specs.History.{committing}
-use Rattle.service.specs.Laws.Accepting.{numbered}
-use Rattle.service.specs.Laws.Telling.{Numbered, decided_done, unrefused}
+use Rattle.service.proofs.Laws.Accepting.{numbered}
+use Rattle.service.proofs.Laws.Telling.{Numbered, decided_done, unrefused}
 use Rattle.service.specs.Told.{Refusal, bare, decided, done, refuse}
 use Rattle.service.specs.World.{Reported, World}
 use Rattle.service.specs.declared.Told.{Told}
 use Rattle.decisions.specs.Laws.{decided_append, gate_refuses}
 use Rattle.rectangles.specs.Claims.{Apart, Shaped}
-use Rattle.rectangles.specs.Laws.Tiles.{all_apart}
+use Rattle.rectangles.proofs.Laws.Tiles.{all_apart}
 use Rattle.rectangles.specs.Rectangles.{carried_all, covered, keys, list_refusals, listed, misnamed, misshapen, out_of_range, procedure_for, rectangle_call, rectangle_refusals}
 use Rattle.rectangles.specs.declared.Change.{Change}
 use Rattle.rectangles.specs.declared.Rectangle.{Rectangle}

@@ -10,7 +10,7 @@ mod calls;
 mod outside;
 
 // The session, and how many places of each table are lent.
-#[derive(Drop)]
+#[derive(Clone, Copy)]
 pub struct Desk {
     pub session: Session,
     pub tiles: usize,

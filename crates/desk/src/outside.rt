@@ -4,7 +4,7 @@ use sanbirogu::{Rule, Session};
 use script::{Command, Word, byte_of};
 
 // The rule of a number, if there is one.
-#[derive(Drop)]
+#[derive(Clone, Copy)]
 pub enum Numbered {
     Known(Rule),
     Nothing,

@@ -6,7 +6,7 @@ use Rattle.lists.specs.Lists.{padded}
 use Rattle.lists.specs.Truth.{never, one_if}
 use Rattle.strict.specs.Book.{spoken_by}
 use Rattle.strict.specs.Histories.{Event, open_job, operation}
-use Rattle.strict.specs.Laws.Released.{spoken_either, spoken_operation}
+use Rattle.strict.proofs.Laws.Released.{spoken_either, spoken_operation}
 use Rattle.strict.specs.Operations.{Op, apply, begun, effect, kind, of_sheet}
 use Rattle.strict.specs.Sound.{SoundTable}
 use Rattle.strict.specs.Tiles.{member}
@@ -17,9 +17,9 @@ use Rattle.grid.specs.Tile.{is_key}
 use Rattle.service.specs.Admission.{perform}
 use Rattle.service.specs.Calls.{session_of, with_state}
 use Rattle.service.specs.Entry.{entry_of, op_in, pack_entry}
-use Rattle.service.specs.Laws.Entries.{entries_back, settled_sound}
-use Rattle.service.specs.Laws.Standing.{Stands, stands_perform}
-use Rattle.service.specs.Laws.Storing.{tabled_stands}
+use Rattle.service.proofs.Laws.Entries.{entries_back, settled_sound}
+use Rattle.service.proofs.Laws.Standing.{Stands, stands_perform}
+use Rattle.service.proofs.Laws.Storing.{tabled_stands}
 use Rattle.service.specs.Sound.{Tabled}
 use Rattle.service.specs.World.{World, state, used_operations, used_tiles, world}
 use Rattle.service.specs.declared.Session.{Session}

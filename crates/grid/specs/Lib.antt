@@ -1,5 +1,3 @@
 pub mod Limits
 pub mod Tile
 pub mod Levels
-pub mod Laws
-pub mod Addresses

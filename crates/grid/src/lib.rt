@@ -14,7 +14,7 @@ pub const SOUTH_EDITION: u8 = 1;
 pub const NORTH_EDITION: u8 = 2;
 
 // A tile's address. A feed of edition 1 counts rows from the south, one of edition 2 from the north.
-#[derive(Drop)]
+#[derive(Clone, Copy)]
 pub struct Address {
     pub edition: u8,
     pub zoom: u8,
@@ -23,7 +23,7 @@ pub struct Address {
 }
 
 // Where a tile is, as its key has it.
-#[derive(Drop)]
+#[derive(Clone, Copy)]
 pub struct Position {
     pub zoom: u32,
     pub column: u32,
@@ -31,7 +31,7 @@ pub struct Position {
 }
 
 // What the address step answers. The turns are how often the column goes round the world, below 0 westward.
-#[derive(Drop)]
+#[derive(Clone, Copy)]
 pub enum Located {
     Key { key: u32, turns: i32 },
     Refused,

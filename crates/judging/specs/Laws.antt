@@ -23,7 +23,7 @@ use Rattle.service.specs.Limits.{operation_size, short_size}
 use Rattle.service.specs.Told.{bare, decided, told_held}
 use Rattle.service.specs.World.{World, free_bytes, state}
 use Rattle.service.specs.declared.Told.{Told}
-use Rattle.rectangles.specs.Laws.Apart.{holds_not}
+use Rattle.rectangles.proofs.Laws.Apart.{holds_not}
 use Rattle.rectangles.specs.Rectangles.{first_held, first_of, list_refusals, most_in_rectangle, needed}
 use Rattle.filter.specs.Filter.{elsewhere}
 use Rattle.rules.specs.Laws.{place_wanted, unmet_wants}

@@ -14,14 +14,14 @@ use service::{OPERATION_SIZE, Reply, SHORT_SIZE, Session};
 use strict::Procedure;
 
 // What one tile of a list finds: its holder's job and sheet, or whether it needs a place.
-#[derive(Drop)]
+#[derive(Clone, Copy)]
 pub enum Seen {
     Held { job: u8, sheet: u16 },
     Free(bool),
 }
 
 // What a list finds: job and sheet of the first holder, or how many places it needs.
-#[derive(Drop)]
+#[derive(Clone, Copy)]
 pub enum Found {
     Held { job: u8, sheet: u16 },
     Needs(usize),

@@ -6,7 +6,7 @@ ghost use Rattle.layout.specs.Whose.{meant};
 use service::{JOB_FACTOR, KIND_FACTOR, SHEET_FACTOR};
 
 // Which of the entries are meant: all of them, or those of a job.
-#[derive(Drop)]
+#[derive(Clone, Copy)]
 pub enum Whose {
     Anyones,
     Jobs(u8),

@@ -12,9 +12,9 @@ use borrow.Author.Rules.{read_below}
 use borrow.Author.Tests.{eq-eqb, le-ltb, ltb-false, ltb-true, ne_eqb}
 use Rattle.lists.specs.Lists.{All}
 use Rattle.lists.specs.Truth.{Same, one_if, other, same, same?}
-use Rattle.strict.specs.Laws.Members.{above_ascending}
+use Rattle.strict.proofs.Laws.Members.{above_ascending}
 use Rattle.strict.specs.Tiles.{Above, Ascending}
-use Rattle.grid.specs.Laws.Keys.{parts}
+use Rattle.grid.proofs.Laws.Keys.{parts}
 use Rattle.grid.specs.Levels.{levels_from, tiles_at}
 use Rattle.grid.specs.Limits.{zoom_factor}
 use Rattle.grid.specs.Tile.{is_key, zoom_in}

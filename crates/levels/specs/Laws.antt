@@ -2,13 +2,13 @@
 use Rattle.std.specs.Prelude.{Bool, ◌||◌, false, true, List, ◌≡◌, refl, ◌+◌, ◌-◌, ◌≤◌, ℕ, eqb, length}
 use Rattle.std.proofs.Common.{◌∙◌, ap, sym, arith}
 use Rattle.lists.specs.Truth.{Same, other, same, same?}
-use Rattle.strict.specs.Laws.Members.{ascending_apply, member_apply, same_members, touch}
-use Rattle.strict.specs.Laws.Room.{length_delete, length_insert}
+use Rattle.strict.proofs.Laws.Members.{ascending_apply, member_apply, same_members, touch}
+use Rattle.strict.proofs.Laws.Room.{length_delete, length_insert}
 use Rattle.strict.specs.Operations.{apply, clear, effect, put}
 use Rattle.strict.specs.Tiles.{Ascending, delete, insert_tile, member}
 use Rattle.strict.specs.declared.Procedure.TheVariants.{Del, Ins, Mem}
 use Rattle.strict.specs.declared.Procedure.{Procedure}
-use Rattle.grid.specs.Laws.Counting.{level_cleared, level_few, level_put, level_some}
+use Rattle.grid.proofs.Laws.Counting.{level_cleared, level_few, level_put, level_some}
 use Rattle.grid.specs.Tile.{is_key}
 use Rattle.service.specs.Limits.{most_tiles}
 use Rattle.levels.specs.Tally.{Movable, lowered, raised, tally_after, tally_of}

@@ -1,7 +1,7 @@
 // The tiles of each level: counted in a tile table, and kept where a tile comes or goes.
 ghost use Rattle.std.specs.Prelude.{true, ◌≡◌, ◌<◌, ◌≤◌, get_or, length, take};
 ghost use Rattle.lists.specs.Lists.{All, same_numbers};
-ghost use Rattle.grid.specs.Laws.Counting.{level_place};
+ghost use Rattle.grid.proofs.Laws.Counting.{level_place};
 ghost use Rattle.grid.specs.Levels.{levels_of};
 ghost use Rattle.grid.specs.Tile.{is_key};
 ghost use Rattle.service.specs.Limits.{most_tiles};
@@ -17,7 +17,7 @@ use tiles::Spot;
 const NEXT_ZOOM: u32 = 5;
 
 // How many tiles there are, and how many of each level.
-#[derive(Drop)]
+#[derive(Clone, Copy)]
 pub struct Tally {
     pub tiles: usize,
     pub levels: [usize; 11],

@@ -1,6 +1,2 @@
 pub mod Replay
 pub mod Claims
-pub mod Laws
-pub mod Demands
-pub mod Replays
-pub mod Once

@@ -8,7 +8,7 @@ use native.Mathlib.Omega.{arith}
 use lib.ListN.{get_or, length, take}
 use Rattle.lists.specs.Lists.{All}
 use Rattle.service.specs.Entry.{job_in}
-use Rattle.service.specs.Laws.Storing.{zeros_replicate}
+use Rattle.service.proofs.Laws.Storing.{zeros_replicate}
 use Rattle.levels.specs.declared.Tally.{Tally}
 use Rattle.search.specs.Laws.{zeros_table}
 use Rattle.restoring.specs.Laws.{none_undone, undone_fits, undone_other, undone_own}

@@ -10,8 +10,8 @@ use lib.ListN.{get_or, length, replicate, set}
 use lib.Seq.{get_or-set_other, get_or-set_same}
 use borrow.Author.Tests.{eqb-true, ltb-false, ltb-true}
 use Rattle.lists.specs.Truth.{Same, never, other, same, same?}
-use Rattle.strict.specs.Laws.Members.{above_ascending, above_less, ascending_apply, member_apply, not_own, same_members, touch}
-use Rattle.strict.specs.Laws.Room.{length_delete, length_insert}
+use Rattle.strict.proofs.Laws.Members.{above_ascending, above_less, ascending_apply, member_apply, not_own, same_members, touch}
+use Rattle.strict.proofs.Laws.Room.{length_delete, length_insert}
 use Rattle.strict.specs.Operations.{Step, apply, clear, effect, put, skip}
 use Rattle.strict.specs.Tiles.{Above, Ascending, member}
 use Rattle.strict.specs.declared.Procedure.TheVariants.{Del, Ins, Mem}

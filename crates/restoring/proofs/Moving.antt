@@ -8,7 +8,7 @@ use lib.ListN.{length, take}
 use Rattle.lists.specs.Lists.{padded}
 use Rattle.strict.specs.Operations.{put}
 use Rattle.strict.specs.Tiles.{Ascending}
-use Rattle.service.specs.Laws.Storing.{length_padded, used_padded}
+use Rattle.service.proofs.Laws.Storing.{length_padded, used_padded}
 use Rattle.search.specs.Laws.{padded_table, used_length}
 use Rattle.search.specs.Table.{TileTable}
 use Rattle.runs.specs.Runs.{apply_all}

@@ -7,14 +7,14 @@ use native.Mathlib.Omega.{arith}
 use lib.ListN.{get_or, length, length-set, take}
 use Rattle.lists.specs.Lists.{padded}
 use Rattle.lists.specs.Truth.{never}
-use Rattle.strict.specs.Laws.Members.{ascending_apply}
-use Rattle.strict.specs.Laws.Soundness.{member_else}
+use Rattle.strict.proofs.Laws.Members.{ascending_apply}
+use Rattle.strict.proofs.Laws.Soundness.{member_else}
 use Rattle.strict.specs.Operations.{apply, effect}
 use Rattle.strict.specs.Tiles.{Ascending, member}
 use Rattle.strict.specs.declared.Procedure.TheVariants.{Del, Ins, Mem}
 use Rattle.strict.specs.declared.Procedure.{Procedure}
 use Rattle.grid.specs.Tile.{is_key}
-use Rattle.service.specs.Laws.Storing.{used_padded}
+use Rattle.service.proofs.Laws.Storing.{used_padded}
 use Rattle.service.specs.Limits.{most_tiles}
 use Rattle.search.specs.Laws.{padded_table, used_length}
 use Rattle.search.specs.Table.{position_of}

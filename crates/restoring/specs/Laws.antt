@@ -4,8 +4,8 @@ use Rattle.std.proofs.Common.{◌∙◌, ap, sym, arith, drop_of_length-le, drop
 use Rattle.lists.specs.Lists.{All}
 use Rattle.lists.specs.Truth.{by_cond}
 use Rattle.strict.specs.Book.{counted, recover}
-use Rattle.strict.specs.Laws.Counted.{counted_abort}
-use Rattle.strict.specs.Laws.Members.{ascending_apply}
+use Rattle.strict.proofs.Laws.Counted.{counted_abort}
+use Rattle.strict.proofs.Laws.Members.{ascending_apply}
 use Rattle.strict.specs.Operations.{apply, clear, put, skip, undo}
 use Rattle.strict.specs.Tiles.{Ascending, delete, insert_tile}
 use Rattle.grid.specs.Tile.{is_key}

@@ -18,7 +18,7 @@ use strict::Procedure;
 use tiles::Spot;
 
 // What is counted of the tiles as they will be, and how many of them come back.
-#[derive(Drop)]
+#[derive(Clone, Copy)]
 pub struct Notes {
     pub tally: Tally,
     pub coming: usize,

@@ -6,7 +6,7 @@ use native.Mathlib.Omega.{arith}
 use lib.ListN.{drop, get_or, length, length-drop, take}
 use lib.Seq.{append_snoc, get_or-drop, take-suc}
 use Rattle.lists.specs.Lists.{All}
-use Rattle.strict.specs.Laws.Members.{above_ascending}
+use Rattle.strict.proofs.Laws.Members.{above_ascending}
 use Rattle.strict.specs.Tiles.{Above, Ascending}
 
 pub behind : {x : ℕ} {u v : List ℕ} → u ≡ v → x ∷ u ≡ x ∷ v

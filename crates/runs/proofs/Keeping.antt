@@ -10,7 +10,7 @@ use lib.ListN.{drop, drop_of_length-le, get_or, length, length-set, set, take}
 use lib.Seq.{append_snoc, drop-cons, drop-drop, drop-set-lt, length-take-le, slice, take-suc-set}
 use borrow.Author.Tests.{eq-eqb, ltb-false, ltb-true, ne_eqb}
 use Rattle.lists.specs.Lists.{slice_end, slice_next}
-use Rattle.strict.specs.Laws.Members.{above_less}
+use Rattle.strict.proofs.Laws.Members.{above_less}
 use Rattle.strict.specs.Operations.{clear}
 use Rattle.strict.specs.Tiles.{Above, Ascending, delete}
 use Rattle.runs.specs.Runs.{Kept, Met, apply_all}

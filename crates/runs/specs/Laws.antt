@@ -4,8 +4,8 @@ use Rattle.std.proofs.Common.{◌∙◌, sym, arith, eq-eqb, ltb-false, ltb-true
 use Rattle.std.proofs.lemmas.List.{replicate-append-replicate}
 use Rattle.lists.specs.Lists.{All, padded}
 use Rattle.lists.specs.Truth.{Same, other, same, same?}
-use Rattle.strict.specs.Laws.Members.{above_ascending, not_own}
-use Rattle.strict.specs.Laws.Soundness.{member_else}
+use Rattle.strict.proofs.Laws.Members.{above_ascending, not_own}
+use Rattle.strict.proofs.Laws.Soundness.{member_else}
 use Rattle.strict.specs.Operations.{Step, apply, skip}
 use Rattle.strict.specs.Tiles.{Ascending, member}
 use Rattle.search.specs.Laws.{rest_zeros}

@@ -11,7 +11,7 @@ use strict::Procedure;
 use tiles::Spot;
 
 // The greatest of some tiles and keys, and how many of both are left without it.
-#[derive(Drop)]
+#[derive(Clone, Copy)]
 pub struct Last {
     pub key: u32,
     pub old: usize,
@@ -19,7 +19,7 @@ pub struct Last {
 }
 
 // How the key at hand meets a tile.
-#[derive(Drop)]
+#[derive(Clone, Copy)]
 pub enum Meets {
     Below,
     Own,

@@ -11,7 +11,7 @@ mod numbers;
 mod words;
 
 // A word and its numbers: how many there are, how large, and which have a `-` before them.
-#[derive(Drop)]
+#[derive(Clone, Copy)]
 pub struct Command {
     pub word: Word,
     pub count: usize,

@@ -2,7 +2,7 @@
 ghost use Rattle.std.specs.Prelude.{◌≡◌, ◌*◌, ◌+◌, ◌-◌, ◌≤◌, length};
 
 // A line that has not ended yet: how many of its bytes stand at the front of the space, and how many lines may still come.
-#[derive(Drop)]
+#[derive(Clone, Copy)]
 pub struct Unfinished {
     pub held: usize,
     pub left: u64,

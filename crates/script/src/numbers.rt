@@ -2,14 +2,14 @@
 ghost use Rattle.std.specs.Prelude.{◌≤◌, length};
 
 // A number, or none.
-#[derive(Drop)]
+#[derive(Clone, Copy)]
 pub enum Number {
     Value { value: u64, negative: bool },
     Nothing,
 }
 
 // A number with one more digit, if that still fits.
-#[derive(Drop)]
+#[derive(Clone, Copy)]
 enum Spelling {
     Fits(u64),
     TooLarge,

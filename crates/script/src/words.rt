@@ -3,7 +3,7 @@
 // The most numbers of a command.
 pub const MOST_NUMBERS: usize = 8;
 
-#[derive(Drop)]
+#[derive(Clone, Copy)]
 pub enum Word {
     Lend,
     Start,

@@ -8,7 +8,7 @@ use lib.ListN.{get_or, length, take}
 use lib.Seq.{get_or-take}
 use borrow.Author.Tests.{le-ltb, lt-ltb}
 use Rattle.lists.specs.Truth.{by_cond}
-use Rattle.strict.specs.Laws.Members.{above_ascending, above_less}
+use Rattle.strict.proofs.Laws.Members.{above_ascending, above_less}
 use Rattle.strict.specs.Tiles.{Above, Ascending}
 use Rattle.search.specs.Laws.{used_length}
 use Rattle.search.specs.Table.{TileTable, position_of}

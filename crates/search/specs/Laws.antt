@@ -4,7 +4,7 @@ use Rattle.std.proofs.Common.{◌∙◌, ap, suc-le-suc, arith, drop_at, length-
 use Rattle.lists.specs.Lists.{All, padded}
 use Rattle.lists.specs.Truth.{by_cond}
 use Rattle.strict.specs.Tiles.{Ascending}
-use Rattle.service.specs.Laws.Storing.{length_padded, padded_zeros, used_padded}
+use Rattle.service.proofs.Laws.Storing.{length_padded, padded_zeros, used_padded}
 use Rattle.search.specs.Table.{TileTable, position_of}
 
 -- from a count that fits, with nothing but 0 behind what is used

@@ -11,7 +11,7 @@ use grid::{Address, COLUMN_FACTOR, Located, ZOOM_FACTOR};
 use rectangles::{MOST_IN_RECTANGLE, Rectangle};
 
 // A rectangle's shape: refused by 14, by 5, by 13, or the key of its first tile, its height and how many tiles it has.
-#[derive(Drop)]
+#[derive(Clone, Copy)]
 pub enum Shape {
     NoEdition,
     OutOfRange,

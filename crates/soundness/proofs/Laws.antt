@@ -13,12 +13,12 @@ use Rattle.scans.specs.Tests.{all_entries, fails, sorted_keys}
 use Rattle.grid.specs.Levels.{levels_of}
 use Rattle.grid.specs.Tile.{is_key}
 use Rattle.service.specs.Calls.{fresh, start_world}
-use Rattle.service.specs.Laws.Soundness.{ascending_is, every_is, zeros_is}
+use Rattle.service.proofs.Laws.Soundness.{ascending_is, every_is, zeros_is}
 use Rattle.service.specs.Sound.{every, journal_tests, settled_B, sound_B, tabled_B, zeros}
 use Rattle.service.specs.World.{world}
 use Rattle.service.specs.declared.Session.{Session}
 use Rattle.strict.specs.Book.{spoken_by}
-use Rattle.strict.specs.Laws.Room.{nothing_spoken}
+use Rattle.strict.proofs.Laws.Room.{nothing_spoken}
 use Rattle.strict.specs.declared.Rule.{Rule}
 use Rattle.search.specs.Laws.{zeros_table}
 use Rattle.search.specs.Table.{TileTable}

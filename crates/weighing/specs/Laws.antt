@@ -9,9 +9,9 @@ use Rattle.grid.specs.declared.Located.TheVariants.{Key, NoEdition, Refused}
 use Rattle.service.specs.Admission.{open_marks}
 use Rattle.service.specs.Calls.{end_refusals, keyed_refusals, operation_refusals}
 use Rattle.service.specs.History.{committing}
-use Rattle.service.specs.Laws.Accepting.{numbered}
-use Rattle.service.specs.Laws.Soundness.{sound_is}
-use Rattle.service.specs.Laws.Telling.{decided_done, decided_none, unrefused}
+use Rattle.service.proofs.Laws.Accepting.{numbered}
+use Rattle.service.proofs.Laws.Soundness.{sound_is}
+use Rattle.service.proofs.Laws.Telling.{decided_done, decided_none, unrefused}
 use Rattle.service.specs.Limits.{operation_size, short_size}
 use Rattle.service.specs.Sound.{Sound, sound_B}
 use Rattle.service.specs.Told.{Refusal, decided, done, refuse, refused, told}

@@ -10,7 +10,7 @@ use strict::Procedure;
 use tiles::Spot;
 
 // What an operation comes to: a refusal, or the key on which it is to be performed, with what the search for it found and the turns of its column.
-#[derive(Drop)]
+#[derive(Clone, Copy)]
 pub enum Decision {
     Refuse(Reply),
     Perform { spot: Spot, turns: i32 },

@@ -13,7 +13,7 @@ use Rattle.entries.specs.Table.{first_place}
 use Rattle.rules.specs.Laws.{held_place, place_wanted}
 use Rattle.rules.specs.Rules.{holds_by}
 use Rattle.service.specs.Entry.{job_in, op_in, sheet_in}
-use Rattle.service.specs.Laws.Entries.{kind_range}
+use Rattle.service.proofs.Laws.Entries.{kind_range}
 use Rattle.service.specs.World.{World, state, used_operations, used_tiles, world}
 use Rattle.strict.specs.Operations.{kind}
 use Rattle.strict.specs.Tiles.{member}

@@ -1,7 +1,7 @@
 -- `covering::carry_shaped` meets its contract: 14, 5, 13, or the list
 use mathlib.Core.Path.{◌∙◌, ap, subst}
 use borrow.Author.Rules.{rules}
-use Rattle.rectangles.specs.Laws.Tiles.{extent}
+use Rattle.rectangles.proofs.Laws.Tiles.{extent}
 use Rattle.rectangles.specs.Rectangles.{keys, listed}
 use Rattle.service.specs.World.{World, world}
 use Rattle.shapes.specs.Shaping.{Shapes}

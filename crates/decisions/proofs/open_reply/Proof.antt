@@ -5,7 +5,7 @@ use native.Mathlib.Omega.{arith}
 use lib.IntN.{pos}
 use borrow.Author.Rules.{rules}
 use Rattle.lists.specs.Truth.{test_fails, test_passes}
-use Rattle.service.specs.Laws.Soundness.{sound_is}
+use Rattle.service.proofs.Laws.Soundness.{sound_is}
 use Rattle.service.specs.Sound.{sound_B}
 use Rattle.service.specs.Told.{done}
 use Rattle.service.specs.World.{world}

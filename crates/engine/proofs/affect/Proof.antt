@@ -6,7 +6,7 @@ use Prim.Native.Nat.{◌<◌, ◌≤◌, ℕ}
 use native.Mathlib.Omega.{arith}
 use lib.ListN.{length, take}
 use borrow.Author.Rules.{rules}
-use Rattle.strict.specs.Laws.Room.{length_insert}
+use Rattle.strict.proofs.Laws.Room.{length_insert}
 use Rattle.strict.specs.Tiles.{insert_tile, member}
 use Rattle.search.specs.Laws.{used_length}
 use Rattle.search.specs.Table.{TileTable}

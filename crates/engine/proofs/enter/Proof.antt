@@ -1,7 +1,7 @@
 -- `engine::enter` meets its contract: each count by its function
 use mathlib.Core.Path.{refl}
 use native.Mathlib.Omega.{arith}
-use Rattle.service.specs.Laws.Entries.{kind_range}
+use Rattle.service.proofs.Laws.Entries.{kind_range}
 use borrow.Author.Rules.{rules}
 use Rattle.engine.proofs.enter.Statement.{statement}
 use Rattle.engine.proofs.enter.Tie as tie

@@ -2,7 +2,7 @@
 use mathlib.Core.List.{[]}
 use lib.ListN.{take}
 use borrow.Author.Rules.{rules}
-use Rattle.service.specs.Laws.Soundness.{retabled}
+use Rattle.service.proofs.Laws.Soundness.{retabled}
 use Rattle.service.specs.World.{World, state, world}
 use Rattle.judging.proofs.judge_list.Statement.{statement}
 use Rattle.judging.proofs.judge_list.Tie as tie

@@ -2,7 +2,7 @@
 use mathlib.Core.Path.{refl}
 use native.Mathlib.Omega.{arith}
 use borrow.Author.Rules.{rules}
-use Rattle.grid.specs.Laws.Keys.{parts}
+use Rattle.grid.proofs.Laws.Keys.{parts}
 use Rattle.levels.proofs.place_of.Statement.{statement}
 use Rattle.levels.proofs.place_of.Tie as tie
 

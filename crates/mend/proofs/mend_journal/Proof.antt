@@ -1,5 +1,5 @@
 -- `mend::mend_journal` is safe and ends: what it tells of is what the call promises
-use Rattle.mends.specs.Theorems.{mend_within}
+use Rattle.mends.proofs.Theorems.{mend_within}
 use borrow.Author.Rules.{rules}
 use Rattle.mend.proofs.mend_journal.Statement.{statement}
 use Rattle.mend.proofs.mend_journal.Tie as tie

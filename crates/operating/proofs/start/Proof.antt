@@ -5,7 +5,7 @@ use native.Mathlib.Omega.{arith}
 use borrow.Author.Rules.{rules}
 use Rattle.lists.specs.Truth.{test_fails, test_passes}
 use Rattle.service.specs.Calls.{advanced_by, start_world}
-use Rattle.service.specs.Laws.Soundness.{sound_is}
+use Rattle.service.proofs.Laws.Soundness.{sound_is}
 use Rattle.service.specs.Sound.{sound_B}
 use Rattle.admission.specs.Laws.{tile_table}
 use Rattle.service.specs.declared.Session.{Session}

@@ -3,7 +3,7 @@ use mathlib.Core.Path.{◌≡◌}
 use lib.ListN.{length, take}
 use borrow.Author.Rules.{rules}
 use Rattle.lists.specs.Truth.{test_fails, test_passes}
-use Rattle.service.specs.Laws.Soundness.{sound_is}
+use Rattle.service.proofs.Laws.Soundness.{sound_is}
 use Rattle.service.specs.World.{World, world}
 use Rattle.placing.proofs.carry_list.Statement.{statement}
 use Rattle.placing.proofs.carry_list.Tie as tie

@@ -4,7 +4,7 @@ use native.Mathlib.Omega.{arith}
 use lib.ListN.{length, take}
 use lib.Seq.{slice}
 use Rattle.rectangles.specs.Fitting.{Ahead}
-use Rattle.rectangles.specs.Laws.Fitting.{pass_over}
+use Rattle.rectangles.proofs.Laws.Fitting.{pass_over}
 use Rattle.service.specs.World.{world}
 use Rattle.placing.proofs.place_all.Statement.{statement}
 use Rattle.placing.proofs.place_all.Tie as tie

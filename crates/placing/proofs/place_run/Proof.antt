@@ -1,7 +1,7 @@
 -- `placing::place_run` meets its contract: what is written of each operation, and the tiles as they have to be
 use borrow.Author.Rules.{rules}
 use Rattle.admission.specs.Laws.{tile_table}
-use Rattle.service.specs.Laws.Soundness.{sound_is}
+use Rattle.service.proofs.Laws.Soundness.{sound_is}
 use Rattle.service.specs.World.{World, world}
 use Rattle.placing.proofs.place_run.Statement.{statement}
 use Rattle.placing.proofs.place_run.Tie as tie

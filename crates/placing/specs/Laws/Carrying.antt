@@ -7,12 +7,12 @@ use Rattle.std.proofs.Math.Dec.{eqb}
 use Rattle.lists.specs.Lists.{All}
 use Rattle.strict.specs.declared.Procedure.{Procedure}
 use Rattle.service.specs.Claims.{Serves}
-use Rattle.service.specs.Laws.Telling.{Numbered, decided_done, held_numbered, not_held, unrefused}
+use Rattle.service.proofs.Laws.Telling.{Numbered, decided_done, held_numbered, not_held, unrefused}
 use Rattle.service.specs.Told.{bare, decided}
 use Rattle.service.specs.World.{Reported, World, state}
 use Rattle.service.specs.declared.Told.{Told}
 use Rattle.rectangles.specs.Fitting.{Ahead, Fits}
-use Rattle.rectangles.specs.Laws.Fitting.{ahead_start}
+use Rattle.rectangles.proofs.Laws.Fitting.{ahead_start}
 use Rattle.rectangles.specs.Rectangles.{carried_all, first_held, list_refusals}
 use Rattle.placing.specs.Passes.{Carries, list_call}
 

@@ -12,7 +12,7 @@ use Rattle.service.specs.World.{World, state, world}
 use Rattle.service.specs.declared.Session.{Session}
 use Rattle.rectangles.specs.Claims.{Apart}
 use Rattle.rectangles.specs.Fitting.{Ahead, Fits}
-use Rattle.rectangles.specs.Laws.Fitting.{ahead_more, first_none}
+use Rattle.rectangles.proofs.Laws.Fitting.{ahead_more, first_none}
 use Rattle.rectangles.specs.Rectangles.{carried_all, first_held, first_of, needed}
 use Rattle.noting.specs.Noting.{Noted, tiles_left}
 

@@ -1,7 +1,7 @@
 -- `shapes::columns_of` meets its contract
 use native.Mathlib.Omega.{arith}
 use borrow.Author.Rules.{rules}
-use Rattle.grid.specs.Laws.Keys.{size_le}
+use Rattle.grid.proofs.Laws.Keys.{size_le}
 use Rattle.shapes.proofs.columns_of.Statement.{statement}
 use Rattle.shapes.proofs.columns_of.Tie as tie
 

@@ -4,7 +4,7 @@ use Prim.Native.Nat.{◌*◌, ◌≤◌}
 use native.Mathlib.Nat.{mul-le-mul}
 use native.Mathlib.Omega.{arith}
 use borrow.Author.Rules.{rules}
-use Rattle.grid.specs.Laws.Keys.{size_le}
+use Rattle.grid.proofs.Laws.Keys.{size_le}
 use Rattle.shapes.proofs.measured.Statement.{statement}
 use Rattle.shapes.proofs.measured.Tie as tie
 use Rattle.shapes.specs.Laws.Shaping.{no_height, no_width, too_many, too_tall, too_wide, well}

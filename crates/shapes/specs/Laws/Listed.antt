@@ -4,11 +4,11 @@ use Rattle.std.proofs.Math.Option.{some}
 use Rattle.std.proofs.Common.{◌∙◌, ap, ap₂, subst, sym, div-le_self, mod-lt, add-one, arith, pow_pos, take-suc-set, ltb-false}
 use Rattle.lists.specs.Lists.{All}
 use Rattle.lists.specs.Truth.{or_left, or_right}
-use Rattle.grid.specs.Laws.Keys.{around_lt, column_back, keyed_at, row_back, size_le}
+use Rattle.grid.proofs.Laws.Keys.{around_lt, column_back, keyed_at, row_back, size_le}
 use Rattle.grid.specs.Tile.{around, column_in, is_key, key_at, pack_key, row_in}
 use Rattle.rectangles.specs.Claims.{Shaped}
-use Rattle.rectangles.specs.Laws.Listing.{all_sequence, map_sequence}
-use Rattle.rectangles.specs.Laws.Tiles.{Extent, extent, key_stepped, placed_row, tile_valid}
+use Rattle.rectangles.proofs.Laws.Listing.{all_sequence, map_sequence}
+use Rattle.rectangles.proofs.Laws.Tiles.{Extent, extent, key_stepped, placed_row, tile_valid}
 use Rattle.rectangles.specs.Rectangles.{area, first_corner, height, key_for, keys, last_corner, listed, sequence, span, tile_at, top_row, unplaced, width}
 use Rattle.rectangles.specs.declared.Rectangle.{Rectangle}
 use Rattle.shapes.specs.Shaping.{Shapes, Steps, stepped}

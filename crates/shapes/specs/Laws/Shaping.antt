@@ -3,12 +3,12 @@ use Rattle.std.specs.Prelude.{false, not, true, ◌≡◌, ◌*◌, ◌-◌, ◌
 use Rattle.std.proofs.Math.Bool.{or-true}
 use Rattle.std.proofs.Common.{◌∙◌, ap, ap₂, sym, mul-le-mul_right, arith, eq-eqb, le-ltb, lt-ltb, ne_eqb}
 use Rattle.lists.specs.Truth.{both_false}
-use Rattle.grid.specs.Laws.Keys.{keyed_at, row_back, step_fourteen, step_named}
+use Rattle.grid.proofs.Laws.Keys.{keyed_at, row_back, step_fourteen, step_named}
 use Rattle.grid.specs.Tile.{Placed, address_call, is_edition, north_row, placed, row_in}
 use Rattle.grid.specs.declared.Address.{Address}
 use Rattle.grid.specs.declared.Located.TheVariants.{Key, NoEdition, Refused}
 use Rattle.grid.specs.declared.Located.{Located}
-use Rattle.rectangles.specs.Laws.Tiles.{placed_row}
+use Rattle.rectangles.proofs.Laws.Tiles.{placed_row}
 use Rattle.rectangles.specs.Rectangles.{first_corner, height, key_for, last_corner, span, unplaced, width}
 use Rattle.rectangles.specs.declared.Rectangle.{Rectangle}
 use Rattle.shapes.specs.Shaping.{Measures, Shapes, misfit}

@@ -9,11 +9,11 @@ use borrow.Author.Tests.{le-leb, lt-leb}
 use Rattle.lists.specs.Lists.{same_numbers}
 use Rattle.lists.specs.Truth.{test_fails, test_passes}
 use Rattle.scans.specs.Tests.{fails}
-use Rattle.grid.specs.Laws.Counting.{eleven_levels}
+use Rattle.grid.proofs.Laws.Counting.{eleven_levels}
 use Rattle.grid.specs.Levels.{levels_of}
 use Rattle.service.specs.World.{World, state, used_tiles, world}
 use Rattle.strict.specs.Book.{places_taken, spoken_by}
-use Rattle.strict.specs.Laws.Released.{of_all}
+use Rattle.strict.proofs.Laws.Released.{of_all}
 use Rattle.search.specs.Laws.{used_length}
 use Rattle.soundness.specs.Tests.{fresh_tests}
 use borrow.Author.Rules.{rules}

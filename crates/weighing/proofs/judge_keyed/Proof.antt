@@ -6,7 +6,7 @@ use mir.Facts.{to_z-of_z}
 use borrow.Author.Rules.{rules}
 use borrow.Author.Tests.{le-ltb, lt-ltb}
 use Rattle.service.specs.Admission.{open_marks}
-use Rattle.service.specs.Laws.Soundness.{retabled}
+use Rattle.service.proofs.Laws.Soundness.{retabled}
 use Rattle.service.specs.Limits.{operation_size, short_size}
 use Rattle.service.specs.World.{World, world}
 use Rattle.admission.specs.Laws.{verdict_seen}

@@ -1,7 +1,7 @@
 -- `address::Level::columns` meets its contract: 1 shifted by at most 14 places is the power of 2, which fits
 use native.Mathlib.Omega.{arith}
 use borrow.Author.Rules.{rules}
-use Rattle.grid.specs.Laws.Keys.{size_le}
+use Rattle.grid.proofs.Laws.Keys.{size_le}
 use Rattle.address.proofs.Level.columns.Statement.{statement}
 use Rattle.address.proofs.Level.columns.Tie as tie
 

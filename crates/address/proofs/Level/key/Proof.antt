@@ -5,7 +5,7 @@ use native.Mathlib.Omega.{arith}
 use lib.Pow.{pow_pos}
 use mir.Facts.{to_z-of_z}
 use borrow.Author.Rules.{rules}
-use Rattle.grid.specs.Laws.Keys.{around_lt, size_le}
+use Rattle.grid.proofs.Laws.Keys.{around_lt, size_le}
 use Rattle.grid.specs.Tile.{around}
 use Rattle.address.proofs.Level.key.Statement.{statement}
 use Rattle.address.proofs.Level.key.Tie as tie
