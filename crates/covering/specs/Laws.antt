@@ -54,7 +54,7 @@ module _ (w : World) (job : ℕ) (t : Told) (gate : t ≡ decided (end_refusals 
   gate_ready zero =
       let h = unrefused (end_refusals w job)
       (decided_done (end_refusals w job) (done false (pos 0)) (numbered w (committing job)) (ap (λ (x : Told). x.number) (sym gate) ∙ eqb-true t.number 0 zero)) in
-      record { is_sound_there = not-false _ h.0; small = ltb-false 63 job h.1.0; is_open_lem = not-false _ h.1.1.0 }
+      record { is_sound_there = not-false _ h.0; small = ltb-false 63 job h.1.0; job_is_open = not-false _ h.1.1.0 }
 
 module _ (w : World) (job sheet : ℕ) (change : Change) (r : Rectangle) where
   abbrev p : Procedure
@@ -81,7 +81,7 @@ module _ (w : World) (job sheet : ℕ) (change : Change) (r : Rectangle) where
 
   module _ (ready : Serves w job) where
     past_gate : decided (rectangle_refusals w job p r) (covered r) ≡ decided later (covered r)
-    past_gate = rw (ready.is_sound_there, le-ltb 63 job ready.small, ready.is_open)
+    past_gate = rw (ready.is_sound_there, le-ltb 63 job ready.small, ready.job_is_open)
 
     pub tells_fourteen : misnamed r ≡ true → record { told = bare 14; after = w } ≡ rectangle_call w job sheet change r
     tells_fourteen e =

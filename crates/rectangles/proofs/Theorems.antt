@@ -160,7 +160,7 @@ rectangle_sheets_apart f g e = rectangle_told_alike (from_alike f g e)
 -- BY THE FIRST RULE
 -- a rectangle of an open job, that 14, 5 and 13 do not refuse, after the calls cs
 module _ {tiles : List ℕ} {count : ℕ} {operations journal : List ℕ} {cs : Log Call} {w : World} (from : From Alone tiles count operations journal cs w)
-    (job sheet : ℕ) (change : Change) (r : Rectangle) (is_open_lem : opened job (history cs) ≡ true) (shaped : Shaped r) where
+    (job sheet : ℕ) (change : Change) (r : Rectangle) (job_is_open : opened job (history cs) ≡ true) (shaped : Shaped r) where
   -- the starting tiles; and the operations that the calls keep, with those of the rectangle among them
   abbrev start_tiles : List ℕ
   start_tiles = take count tiles
@@ -170,12 +170,12 @@ module _ {tiles : List ℕ} {count : ℕ} {operations journal : List ℕ} {cs : 
 
   -- held just where the history with its operations added would not be strict
   pub rectangle_held_exact : ((rectangle_call w job sheet change r).told.number ≡ 6) ↔ (Strict Alone start_tiles with_them → ⊥)
-  rectangle_held_exact = rectangle_held from job sheet change r is_open_lem shaped
+  rectangle_held_exact = rectangle_held from job sheet change r job_is_open shaped
 
   -- and, where that is strict, refused for want of tile room just where some choice of the kept operations leaves more tiles than there are places
   pub rectangle_room_exact : Strict Alone start_tiles with_them
       → ((rectangle_call w job sheet change r).told.number ≡ 7) ↔ ((chosen : Log Op) × Choice with_them chosen × (length w.tiles < length (run start_tiles chosen)))
-  rectangle_room_exact strict = rectangle_room_just from job sheet change r is_open_lem shaped strict
+  rectangle_room_exact strict = rectangle_room_just from job sheet change r job_is_open shaped strict
 
   -- done just where it stays strict, no choice needs more tiles than there are places, and there are the entries' places and the bytes
   pub rectangle_accepted_exact : ((rectangle_call w job sheet change r).told.number ≡ 0)
@@ -183,4 +183,4 @@ module _ {tiles : List ℕ} {count : ℕ} {operations journal : List ℕ} {cs : 
       × ((chosen : Log Op) → Choice with_them chosen → length (run start_tiles chosen) ≤ length w.tiles)
       × (length (state w).book.table + length (keys (listed r)) ≤ length w.operations)
       × (operation_size * length (keys (listed r)) + short_size * open_marks w.session.marks ≤ free_bytes w))
-  rectangle_accepted_exact = rectangle_accepted from job sheet change r is_open_lem shaped
+  rectangle_accepted_exact = rectangle_accepted from job sheet change r job_is_open shaped

@@ -206,7 +206,7 @@ accepted_writes w c full ok = ap (λ (v : World). v.journal) (left_carried w c o
 pub ends_accepted : (w : World) (job : ℕ) → length w.session.marks ≡ job_count → sound_B w ≡ true → is_open (state w) job ≡ true
     → ((commit_call w job).told ≡ bare 0) × ((abort_call w job).told ≡ bare 0)
 unfolding concluded
-ends_accepted w job full sound is_open_lem =
-    let l = open_small w.session.marks job is_open_lem in
+ends_accepted w job full sound job_is_open =
+    let l = open_small w.session.marks job job_is_open in
     let j = le-ltb last_job job (omega arith) in
-    (rw (sound, j, is_open_lem), rw (sound, j, is_open_lem))
+    (rw (sound, j, job_is_open), rw (sound, j, job_is_open))

@@ -68,7 +68,7 @@ module _ (r : Rule) (s : List ℕ) (h : Log Event) (ascending : Ascending s) (ad
 
   -- an abort leaves the run without the job
   pub abort_leaves : (j : ℕ) → opened j h ≡ true → (book_after s (h ▷ abort j)).tiles ≡ run s (strike j (kept s h))
-  abort_leaves j is_open_lem = (follows r s (h ▷ abort j) ascending (admitted, is_open_lem)).tiles_run
+  abort_leaves j job_is_open = (follows r s (h ▷ abort j) ascending (admitted, job_is_open)).tiles_run
 
   -- ending all open jobs by abort leaves the committed operations alone, with the answers that they had
   pub sweep_leaves_committed : LeftCommitted (book_after s (sweep 64 h)) s (kept s h)
@@ -86,7 +86,7 @@ module _ (s : List ℕ) (h : Log Event) (ascending : Ascending s) (admitted : Ad
   -- an operation of an open job is not held just where the history with it is strict
   pub held_is_exact : (j sheet : ℕ) (p : Procedure) (k : ℕ) → opened j h ≡ true
       → (held_by Alone (book_after s h) j p k ≡ none) ↔ Strict Alone s (kept s (h ▷ operation j sheet p k))
-  held_is_exact j sheet p k is_open_lem = held_exactly s h j sheet p k ascending admitted is_open_lem
+  held_is_exact j sheet p k job_is_open = held_exactly s h j sheet p k ascending admitted job_is_open
 
   -- some choice of the kept operations leaves more than N tiles just where more than N places are taken
   pub room_is_exact : (N : ℕ) → ((chosen : Log Op) × Choice (kept s h) chosen × (N < length (run s chosen))) ↔ (N < places_taken Alone (book_after s h))

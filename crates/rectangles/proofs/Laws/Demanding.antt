@@ -38,7 +38,7 @@ history_followed job sheet p cs [] = refl
 history_followed job sheet p cs (a ∷ xs) = history_followed job sheet p _ xs
 
 module _ {tiles : List ℕ} {count : ℕ} {lent journal : List ℕ} {cs : Log Call} {w : World} (from : From Alone tiles count lent journal cs w) (job sheet : ℕ) (change : Change) (r : Rectangle)
-    (is_open_lem : opened job (history cs) ≡ true) (shaped : Shaped r) where
+    (job_is_open : opened job (history cs) ≡ true) (shaped : Shaped r) where
   abbrev s : List ℕ
   s = take count tiles
 
@@ -71,7 +71,7 @@ module _ {tiles : List ℕ} {count : ℕ} {lent journal : List ℕ} {cs : Log Ca
   asc = (arrived from).start_stands.ascending
 
   ready : Serves w job
-  ready = let l = few_jobs Alone s h there.admitted job is_open_lem in record { is_sound_there = there.sound; small = omega arith; is_open_lem = there.open_jobs_lem job ∙ is_open_lem }
+  ready = let l = few_jobs Alone s h there.admitted job job_is_open in record { is_sound_there = there.sound; small = omega arith; job_is_open = there.open_jobs_lem job ∙ job_is_open }
 
   abbrev added : Log Op
   added = kept s (history (followed cs (calls_of job sheet change r)))
@@ -82,7 +82,7 @@ module _ {tiles : List ℕ} {count : ℕ} {lent journal : List ℕ} {cs : Log Ca
   free_iff : (first_held w.session.rule (state w).book job p ks ≡ none) ↔ Strict Alone s added
   free_iff =
       let m = (state w).book in
-      let f = free_strict s job sheet p asc h ks there.admitted is_open_lem (all_apart r shaped) in
+      let f = free_strict s job sheet p asc h ks there.admitted job_is_open (all_apart r shaped) in
       let q : kept s (with_all h job sheet p ks) ≡ added = ap (kept s) (history_followed job sheet p cs (listed r)) in (
         λ e. subst (Strict Alone s) q (f.0 (of_history Unheld (held_none w.session.rule m job p ks e))),
         λ strict. none_held w.session.rule m job p ks (of_session Unheld (f.1 (subst (Strict Alone s) (sym q) strict))),
@@ -100,7 +100,7 @@ module _ {tiles : List ℕ} {count : ℕ} {lent journal : List ℕ} {cs : Log Ca
       let m = (state w).book in
       let free = held_none w.session.rule m job p ks (free_iff.1 strict) in
       let free_there = of_history Unheld free in
-      let admitted = all_admitted s job sheet p asc h ks there.admitted is_open_lem (all_apart r shaped) free_there in
+      let admitted = all_admitted s job sheet p asc h ks there.admitted job_is_open (all_apart r shaped) free_there in
       let exact = room_is_exact s (with_all h job sheet p ks) asc admitted N in
       let q : kept s (with_all h job sheet p ks) ≡ added = ap (kept s) (history_followed job sheet p cs (listed r)) in
       let up : Ascending (book_after s h).tiles = subst (λ (x : Book). Ascending x.tiles) there.book_there (sound_is w there.sound).tables.ascending in

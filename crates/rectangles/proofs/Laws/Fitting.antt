@@ -89,10 +89,10 @@ module _ (w : World) (job sheet : ℕ) (p : Procedure) (k : ℕ) (full : length 
       let long : length bytes ≡ operation_size = record_size_lem e (answer_to (state w) e) in
       let kept : length then.journal ≡ length w.journal = length-sets w.journal w.session.journal bytes in
       let fit = may.bytes_fit in
-      let is_open_lem = not-false _ h.0 in
+      let job_is_open = not-false _ h.0 in
       record {
-        ready_before = record { is_sound_there = is_sound w may.sound_before; small = may.named.0; is_open_lem = is_open_lem };
-        ready_then = record { is_sound_there = is_sound then (carried_sound w e full may); small = may.named.0; is_open_lem = is_open_lem };
+        ready_before = record { is_sound_there = is_sound w may.sound_before; small = may.named.0; job_is_open = job_is_open };
+        ready_then = record { is_sound_there = is_sound then (carried_sound w e full may); small = may.named.0; job_is_open = job_is_open };
         held_then = ap (λ x. first_held w.session.rule x job p ks) book ∙ first_held_same w.session.rule m job sheet p k ks apart ∙ ap (λ o. first_of o (first_held w.session.rule m job p ks)) (sym held);
         room_then = ap (λ (x : Book). places_taken w.session.rule x + needed w.session.rule x job p ks) book ∙ omega arith;
         table_then = ap (λ (x : Book). length x.table) book ∙ length-append m.table _;
@@ -159,7 +159,7 @@ module _ (job sheet : ℕ) (p : Procedure) where
 pub done_ready : (w : World) (job sheet : ℕ) (p : Procedure) (a : Address) → (call w (operating job sheet p a)).told.number ≡ 0 → Serves w job
 done_ready w job sheet p a ok =
     let h = passed w (operating job sheet p a) ok in
-    record { is_sound_there = not-false _ h.0; small = ltb-false last_job job h.1.0; is_open_lem = not-false _ h.1.1.0 }
+    record { is_sound_there = not-false _ h.0; small = ltb-false last_job job h.1.0; job_is_open = not-false _ h.1.1.0 }
 
 -- THE PASS THAT CARRIES OUT
 -- the first of a list that fits may happen

@@ -7,7 +7,7 @@ use Rattle.std.proofs.Math.Path.{ap, refl}
 use Rattle.std.proofs.lemmas.Bool.{not-false}
 use Rattle.lists.specs.Lists.{All}
 use Rattle.strict.specs.Commutativity.{Signature}
-use Rattle.strict.specs.Strict.{Log}
+use Rattle.strict.specs.Strict.{◌▷◌, Log}
 use Rattle.strict.specs.Tiles.{member}
 use Rattle.strict.specs.declared.Procedure.{Procedure}
 use Rattle.strict.specs.declared.Rule.{Rule}
@@ -141,7 +141,7 @@ module _ {by : Rule} {tiles : List ℕ} {count : ℕ} {operations journal : List
   from_all : {cs : Log Call} {w : World} (ds : List Call) → From by tiles count operations journal cs w → AllDone w ds
       → From by tiles count operations journal (followed cs ds) (left_by w ds)
   from_all [] f d = f
-  from_all (c ∷ ds) f d = from_all ds (called f c d.0) d.1
+  from_all {cs = cs} (c ∷ ds) f d = from_all {cs = cs ▷ c} ds (called f c d.0) d.1
 
   pub moves_written : {ms : Log Move} {w : World} → FromMoves by tiles count operations journal ms w → From by tiles count operations journal (written ms) w
   moves_written (starting e) = started e

@@ -145,8 +145,8 @@ accepted w c = told_zero (refusals_of w c) (done (answer_to (state w) (event c))
 -- WHAT IT PASSED, by name
 pub serves_is : (w : World) (job : ℕ) → Passed (end_refusals w job) ↔ Serves w job
 serves_is w job = (
-  λ h. record { is_sound_there = not-false _ h.0; small = ltb-false last_job job h.1.0; is_open_lem = not-false _ h.1.1.0 },
-  λ s. (ap not s.is_sound_there, (le-ltb last_job job s.small, (ap not s.is_open, tt))),
+  λ h. record { is_sound_there = not-false _ h.0; small = ltb-false last_job job h.1.0; job_is_open = not-false _ h.1.1.0 },
+  λ s. (ap not s.is_sound_there, (le-ltb last_job job s.small, (ap not s.job_is_open, tt))),
 )
 
 pub record OpenPassed (w : World) (job : ℕ) : Type 0 where
@@ -203,7 +203,7 @@ passes_operation w job sheet p a h =
     record {
       sound_before = sound_is w v.is_sound_there;
       named = (v.small, address_key a h.has_edition h.has_key);
-      unrefused_by = none_applies (refusals (length w.tiles) (length w.operations) (state w) (operation job sheet p k)) (ap not v.is_open, (o.0, (o.1.0, (o.1.1.0, tt))));
+      unrefused_by = none_applies (refusals (length w.tiles) (length w.operations) (state w) (operation job sheet p k)) (ap not v.job_is_open, (o.0, (o.1.0, (o.1.1.0, tt))));
       bytes_fit = omega arith;
       ends_fit = λ m. omega arith;
     }
@@ -218,9 +218,9 @@ record Ends (w : World) (job : ℕ) : Type 0 where
 ends : (w : World) (job : ℕ) → Serves w job → Ends w job
 ends w job v =
     let s = sound_is w v.is_sound_there in
-    let n = closes_one w.session.marks job v.is_open in
+    let n = closes_one w.session.marks job v.job_is_open in
     let f = s.ends_fit in
-    record { sound_there = s; job_fits = v.small; not_refused = both_false (ap not v.is_open) refl; room_there = omega arith; ends_there = omega arith }
+    record { sound_there = s; job_fits = v.small; not_refused = both_false (ap not v.job_is_open) refl; room_there = omega arith; ends_there = omega arith }
 
 pub passes : (w : World) (c : Call) → Passed (refusals_of w c) → Passes w (event c)
 passes w (opening job) h = passes_open w job ((open_passed w job).0 h)

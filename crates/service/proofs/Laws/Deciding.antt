@@ -130,7 +130,7 @@ module _ (w : World) (job sheet : ℕ) (p : Procedure) (a : Address) (k : ℕ) (
 
   told_is : (operation_call w job sheet p a).told ≡ decided (keyed_refusals w job p k) answered
   unfolding concluded
-  told_is = rw (v.is_sound_there, le-ltb last_job job v.small, v.is_open, (keyed_edition a k has_key_lem).0, has_key_lem)
+  told_is = rw (v.is_sound_there, le-ltb last_job job v.small, v.job_is_open, (keyed_edition a k has_key_lem).0, has_key_lem)
 
   number_is : number ≡ (decided (keyed_refusals w job p k) answered).number
   number_is = ap (λ (t : Told). t.number) told_is

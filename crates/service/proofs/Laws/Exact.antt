@@ -28,19 +28,19 @@ placeless_test true n places l = (λ c. let e = c.1 in omega arith, λ g. (refl,
 placeless_test false n places l = (λ c. never (sym c.0), λ g. absurd (omega arith))
 
 module _ (s : List ℕ) (h : Log Event) (w : World) (asc : Ascending s) (r : Reached Alone s h w) (sound : Sound w) (job sheet : ℕ) (p : Procedure) (a : Address) (k : ℕ)
-    (is_open_lem : opened job h ≡ true) (has_key_lem : key_of a ≡ some k) where
+    (job_is_open : opened job h ≡ true) (has_key_lem : key_of a ≡ some k) where
   abbrev added : Log Op
   added = kept s (h ▷ operation job sheet p k)
 
   serves : Serves w job
   serves =
-      let l = few_jobs Alone s h r.admitted job is_open_lem in
-      record { is_sound_there = r.sound; small = omega arith; is_open_lem = r.open_jobs_lem job ∙ is_open_lem }
+      let l = few_jobs Alone s h r.admitted job job_is_open in
+      record { is_sound_there = r.sound; small = omega arith; job_is_open = r.open_jobs_lem job ∙ job_is_open }
 
   held_iff : (holder_in w job p k ≡ none) ↔ Strict Alone s added
   held_iff =
       subst (λ q. (held_by q (state w).book job p k ≡ none) ↔ Strict Alone s added) (sym r.by_rule)
-      (subst (λ m. (held_by Alone m job p k ≡ none) ↔ Strict Alone s added) (sym r.book_there) (held_is_exact s h asc r.admitted job sheet p k is_open_lem))
+      (subst (λ m. (held_by Alone m job p k ≡ none) ↔ Strict Alone s added) (sym r.book_there) (held_is_exact s h asc r.admitted job sheet p k job_is_open))
 
   pub held_just : ((operation_call w job sheet p a).told.number ≡ 6) ↔ (Strict Alone s added → ⊥)
   held_just =
@@ -55,7 +55,7 @@ module _ (s : List ℕ) (h : Log Event) (w : World) (asc : Ascending s) (r : Rea
       let new = begun job p k (used_tiles w) in
       let q = w.session.rule in
       let free_there : held_by Alone m job p k ≡ none = sym (ap₂ (λ x y. held_by x y job p k) r.by_rule r.book_there) ∙ free in
-      let exact = room_is_exact s (h ▷ operation job sheet p k) asc (r.admitted, is_open_lem, free_there) (length w.tiles) in
+      let exact = room_is_exact s (h ▷ operation job sheet p k) asc (r.admitted, job_is_open, free_there) (length w.tiles) in
       let grown = room_operation q (state w).book job sheet p k sound.tables.ascending in
       let same : places_taken Alone (step m (operation job sheet p k)) ≡ places_taken q (state w).book + one_if (needs_place q (state w).book.table new) =
       ap₂ (λ x y. places_taken x (step y (operation job sheet p k))) (sym r.by_rule) (sym r.book_there) ∙ grown in

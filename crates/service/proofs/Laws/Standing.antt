@@ -128,7 +128,7 @@ room_left false places n e l = omega arith
 module _ (places slots : ℕ) (s : State) (h : Stands places slots s) where
   stands_operation : (job sheet : ℕ) (p : Procedure) (k : ℕ) → is_key k ≡ true → is_open s job ≡ true → Free places slots s job p k
       → Stands places slots (perform s (operation job sheet p k))
-  stands_operation job sheet p k valid is_open_lem free =
+  stands_operation job sheet p k valid job_is_open free =
       let t = s.book.tiles in
       let us = s.book.table in
       let o = of_sheet sheet (begun job p k t) in
@@ -136,7 +136,7 @@ module _ (places slots : ℕ) (s : State) (h : Stands places slots s) where
         all_jobs = h.all_jobs;
         keys = all_apply (λ x. is_key x ≡ true) (effect p) k t valid h.keys;
         ascending = ascending_apply (effect p) k t h.ascending;
-        entries = all_append (Storable s.marks) us (o ∷ []) h.entries (record { of_open = is_open_lem; valid = valid; not_done = refl }, tt);
+        entries = all_append (Storable s.marks) us (o ∷ []) h.entries (record { of_open = job_is_open; valid = valid; not_done = refl }, tt);
         table = sound_operation s.rule t us o h.table refl refl (sheet_apart s.rule sheet (begun job p k t) us ∙ free.unheld);
         room = let e = room_operation s.rule s.book job sheet p k h.ascending in
             let l = room_left (needs_place s.rule us (begun job p k t)) places (places_taken s.rule s.book) free.some_room h.room in
