@@ -8,31 +8,40 @@ use Rattle.grid.specs.Tile.{column_in, is_key, row_in}
 use Rattle.address.proofs.Level.is_key.Statement.{statement}
 use Rattle.address.proofs.Level.is_key.Tie as tie
 
-cast-t6 : tie.Need-overflow-cast-t6
-cast-t6 c = search rules
+-- what is left to test once the zoom is in its range
+zoom_tested : (c : tie.After-columns-columns)
+    → let k = c.args.k in is_key k ≡ (ltb (column_in k) c.columns-columns.result && ltb (row_in k) c.columns-columns.result)
+unfolding is_key
+zoom_tested c = rw (c.columns-columns.ensures, le-leb 4 _ c.if-zoom-lt-LOWEST.false, le-leb _ 14 c.if-zoom-gt-HIGHEST.false)
+
+-- `address::Level::is_key` meets its contract: its tests are those of the definition
+overflow_cast-level : tie.Need-overflow_cast-level
+overflow_cast-level c = search rules
+
+returns-then-zoom-lt-LOWEST : tie.Need-returns-then-zoom-lt-LOWEST
+unfolding is_key
+returns-then-zoom-lt-LOWEST c = rw (lt-leb 4 _ c.if-zoom-lt-LOWEST.true)
+
+returns-then-zoom-gt-HIGHEST : tie.Need-returns-then-zoom-gt-HIGHEST
+unfolding is_key
+returns-then-zoom-gt-HIGHEST c = rw (le-leb 4 _ c.if-zoom-lt-LOWEST.false, lt-leb _ 14 c.if-zoom-gt-HIGHEST.true)
+
+columns-columns-requires : tie.Need-columns-columns-requires
+columns-columns-requires c κs = search rules
+
+returns-then-columns-k : tie.Need-returns-then-columns-k
+returns-then-columns-k c = rw (zoom_tested c.before, le-ltb _ c.columns-columns.result c.if-columns-k.true)
 
 returns : tie.Need-returns
-unfolding is_key
-returns c = rw (lt-leb 4 _ c.if1.true)
-
-returns-2 : tie.Need-returns-2
-unfolding is_key
-returns-2 c = rw (le-leb 4 _ c.before.if1.false, lt-leb _ 14 c.if2.true)
-
-columns-requires : tie.Need-columns-requires
-columns-requires c κs = search rules
-
--- what is left to test once the zoom is in its range
-zoom_tested : (c : tie.After-columns)
-    → let k = c.before.before.before.args.k in is_key k ≡ (ltb (column_in k) c.columns.result && ltb (row_in k) c.columns.result)
-unfolding is_key
-zoom_tested c = rw (c.columns.ensures, le-leb 4 _ c.before.before.if1.false, le-leb _ 14 c.before.if2.false)
-
-returns-3 : tie.Need-returns-3
-returns-3 c = rw (zoom_tested c.before, le-ltb _ c.before.columns.result c.if3.true)
-
-returns-4 : tie.Need-returns-4
-returns-4 c = rw (zoom_tested c.before, lt-ltb _ _ c.if3.false)
+returns c = rw (zoom_tested c.before, lt-ltb _ _ c.if-columns-k.false)
 
 pub is_key_spec : {M : Type 1} → statement M
-is_key_spec = tie.close (tie.spec cast-t6 returns returns-2 columns-requires returns-3 returns-4)
+is_key_spec =
+    tie.close
+    (tie.spec
+    overflow_cast-level
+    returns-then-zoom-lt-LOWEST
+    returns-then-zoom-gt-HIGHEST
+    columns-columns-requires
+    returns-then-columns-k
+    returns)

@@ -8,6 +8,7 @@ use mir.Syntax.{w32}
 use mir.Val.{of_z, to_z}
 use Rattle.address.specs.Rows.{Row, row_kept, row_there, row_turned}
 use Rattle.address.proofs.Signed.{cast_natural}
+use borrow.Author.Rules.{rules}
 use Rattle.address.proofs.Level.north_row.Statement.{statement}
 use Rattle.address.proofs.Level.north_row.Tie as tie
 
@@ -21,23 +22,32 @@ row_read c = to_z-of_z c.ranges.row ∙ (there c).row_is
 columns-requires : tie.Need-columns-requires
 columns-requires c κs = (there c.before).high
 
-sub-result : tie.Need-overflow-sub-result
-sub-result c = let n = pow_pos c.before.before.args.self.zoom in omega (arith, c.columns.ensures)
+overflow_sub-result : tie.Need-overflow_sub-result
+overflow_sub-result c = let n = pow_pos c.args.self.zoom in omega (arith, c.columns.ensures)
 
-cast-result : tie.Need-overflow-cast-result
-cast-result c = cast_natural c.before.before.ranges.row (there c.before.before).row_is
+overflow_cast-result : tie.Need-overflow_cast-result
+overflow_cast-result c = cast_natural c.ranges.row (there c.before.before).row_is
 
-sub-result-2 : tie.Need-overflow-sub-result-2
-sub-result-2 c = omega (arith, c.columns.ensures, (there c.before.before).fits, ap nat_abs (row_read c.before.before))
+overflow_sub-result-then-edition-eq-SOUTH_EDITION : tie.Need-overflow_sub-result-then-edition-eq-SOUTH_EDITION
+overflow_sub-result-then-edition-eq-SOUTH_EDITION c = omega (arith, c.columns.ensures, (there c.before.before).fits, ap nat_abs (row_read c.before.before))
+
+returns-then-edition-eq-SOUTH_EDITION : tie.Need-returns-then-edition-eq-SOUTH_EDITION
+returns-then-edition-eq-SOUTH_EDITION c = let s = c.before.before in rw (row_read s, c.columns.ensures) (row_turned s.args.edition s.args.self.zoom s.args.row (there s) c.if-edition-eq-SOUTH_EDITION.true)
+
+overflow_cast-result-2 : tie.Need-overflow_cast-result-2
+overflow_cast-result-2 c = cast_natural c.ranges.row (there c.before).row_is
 
 returns : tie.Need-returns
-returns c = let s = c.before.before in rw (row_read s, c.columns.ensures) (row_turned s.args.edition s.args.self.zoom s.args.row (there s) c.before.if1.true)
-
-cast-result-2 : tie.Need-overflow-cast-result-2
-cast-result-2 c = cast_natural c.before.ranges.row (there c.before).row_is
-
-returns-2 : tie.Need-returns-2
-returns-2 c = let s = c.before in rw (row_read s) (row_kept s.args.edition s.args.self.zoom s.args.row (there s) c.if1.false)
+returns c = let s = c.before in rw (row_read s) (row_kept s.args.edition s.args.self.zoom s.args.row (there s) c.if-edition-eq-SOUTH_EDITION.false)
 
 pub north_row_spec : {M : Type 1} → statement M
-north_row_spec = tie.close (tie.spec columns-requires sub-result cast-result sub-result-2 returns cast-result-2 returns-2)
+north_row_spec =
+    tie.close
+    (tie.spec
+    columns-requires
+    overflow_sub-result
+    overflow_cast-result
+    overflow_sub-result-then-edition-eq-SOUTH_EDITION
+    returns-then-edition-eq-SOUTH_EDITION
+    overflow_cast-result-2
+    returns)

@@ -12,65 +12,65 @@ use Rattle.address.proofs.Level.turns.Statement.{statement}
 use Rattle.address.proofs.Level.turns.Tie as tie
 
 -- the column as the casts read it: left of zero, where it is turned, and not
-left : (c : tie.Then1) → to_z w32 (of_z w32 (negsuc 0 -ℤ to_z w32 (of_z w32 c.before.before.args.column))) ≡ pos (mag c.before.before.args.column)
-left c = turned_read c.before.before.ranges.column c.if1.true
+left : (c : tie.Then-column-lt0) → to_z w32 (of_z w32 (negsuc 0 -ℤ to_z w32 (of_z w32 c.args.column))) ≡ pos (mag c.args.column)
+left c = turned_read c.ranges.column c.if-column-lt0.true
 
-right : (c : tie.Else1) → to_z w32 (of_z w32 c.before.before.args.column) ≡ pos (mag c.before.before.args.column)
-right c = read c.before.before.ranges.column c.if1.false
+right : (c : tie.Else-column-lt0) → to_z w32 (of_z w32 c.args.column) ≡ pos (mag c.args.column)
+right c = read c.ranges.column c.if-column-lt0.false
 
 -- a level has columns
-some : (c : tie.After-columns) → 0 < c.columns.result
-some c = rw c.columns.ensures (pow_pos _)
+some : (c : tie.After-columns-columns) → 0 < c.columns-columns.result
+some c = rw c.columns-columns.ensures (pow_pos _)
 
-columns-requires : tie.Need-columns-requires
-columns-requires c κs = search rules
+columns-columns-requires : tie.Need-columns-columns-requires
+columns-columns-requires c κs = search rules
 
-sub-result : tie.Need-overflow-sub-result
-sub-result c = turned_fits c.before.before.ranges.column c.if1.true
+overflow_sub-result : tie.Need-overflow_sub-result
+overflow_sub-result c = turned_fits c.ranges.column c.if-column-lt0.true
 
-cast-result : tie.Need-overflow-cast-result
-cast-result c = cast_fits c.before.before.ranges.column (left c)
+overflow_cast-result : tie.Need-overflow_cast-result
+overflow_cast-result c = cast_fits c.ranges.column (left c)
 
-div-result : tie.Need-nonzero-div-result
-div-result c = some c.before
+nonzero_div-result : tie.Need-nonzero_div-result
+nonzero_div-result c = some c.before
 
-cast-result-2 : tie.Need-overflow-cast-result-2
-cast-result-2 c = rw (left c) (quotient_fits c.before.before.ranges.column _)
+overflow_cast-result-then-column-lt0 : tie.Need-overflow_cast-result-then-column-lt0
+overflow_cast-result-then-column-lt0 c = rw (left c) (quotient_fits c.ranges.column _)
 
-sub-result-2 : tie.Need-overflow-sub-result-2
-sub-result-2 c = rw (left c) (westward_fits c.before.before.ranges.column _)
+overflow_sub-result-then-column-lt0 : tie.Need-overflow_sub-result-then-column-lt0
+overflow_sub-result-then-column-lt0 c = rw (left c) (westward_fits c.ranges.column _)
 
-cast-result-3 : tie.Need-overflow-cast-result-3
-cast-result-3 c = cast_fits c.before.before.ranges.column (right c)
+overflow_cast-result-else-column-lt0 : tie.Need-overflow_cast-result-else-column-lt0
+overflow_cast-result-else-column-lt0 c = cast_fits c.ranges.column (right c)
 
-div-result-2 : tie.Need-nonzero-div-result-2
-div-result-2 c = some c.before
+nonzero_div-result-else-column-lt0 : tie.Need-nonzero_div-result-else-column-lt0
+nonzero_div-result-else-column-lt0 c = some c.before
 
-cast-result-4 : tie.Need-overflow-cast-result-4
-cast-result-4 c = rw (right c) (quotient_fits c.before.before.ranges.column _)
+overflow_cast-result-else-column-lt0-2 : tie.Need-overflow_cast-result-else-column-lt0-2
+overflow_cast-result-else-column-lt0-2 c = rw (right c) (quotient_fits c.ranges.column _)
 
-returns : tie.Need-returns
-returns c =
-    let fits = c.before.before.ranges.column in
-    rw (left c, westward_read fits c.before.columns.result, c.before.columns.ensures, below fits c.if1.true)
+returns-then-column-lt0 : tie.Need-returns-then-column-lt0
+returns-then-column-lt0 c =
+    let fits = c.ranges.column in
+    rw (left c, westward_read fits c.columns-columns.result, c.columns-columns.ensures, below fits c.if-column-lt0.true)
 
-returns-2 : tie.Need-returns-2
-returns-2 c =
-    let fits = c.before.before.ranges.column in
-    rw (right c, quotient_read fits c.before.columns.result, c.before.columns.ensures, above fits c.if1.false)
+returns-else-column-lt0 : tie.Need-returns-else-column-lt0
+returns-else-column-lt0 c =
+    let fits = c.ranges.column in
+    rw (right c, quotient_read fits c.columns-columns.result, c.columns-columns.ensures, above fits c.if-column-lt0.false)
 
 pub turns_spec : {M : Type 1} → statement M
 turns_spec =
     tie.close
     (tie.spec
-    columns-requires
-    sub-result
-    cast-result
-    div-result
-    cast-result-2
-    sub-result-2
-    cast-result-3
-    div-result-2
-    cast-result-4
-    returns
-    returns-2)
+    columns-columns-requires
+    overflow_sub-result
+    overflow_cast-result
+    nonzero_div-result
+    overflow_cast-result-then-column-lt0
+    overflow_sub-result-then-column-lt0
+    overflow_cast-result-else-column-lt0
+    nonzero_div-result-else-column-lt0
+    overflow_cast-result-else-column-lt0-2
+    returns-then-column-lt0
+    returns-else-column-lt0)
