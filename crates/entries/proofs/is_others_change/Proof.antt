@@ -21,36 +21,44 @@ module _ (job key e : ℕ) where
   by_kind : (job_in e ≡ job → ⊥) → key_in e ≡ key → {b : Bool} → (eqb (kind_in e) 1 || eqb (kind_in e) 3) ≡ b → b ≡ others_change job key e
   by_kind foreign there {b} h = rw (ne_eqb (job_in e) job foreign, eq-eqb key (key_in e) (sym there), h) (sym (and-true b))
 
-job-in-requires : tie.Need-job-in-requires
-job-in-requires c κs = search rules
+foreign : (c : tie.After-kind_in-kind) → let a = c.args in job_in a.e ≡ a.job → ⊥
+foreign c q = c.if-job_in-job.false (c.job_in.ensures ∙ q)
+
+there : (c : tie.After-kind_in-kind) → let a = c.args in key_in a.e ≡ a.key
+there c = sym (c.if-key-key_in.false ∙ c.key_in.ensures)
+
+job_in-requires : tie.Need-job_in-requires
+job_in-requires c κs = search rules
+
+returns-then-job_in-job : tie.Need-returns-then-job_in-job
+returns-then-job_in-job c = rw (eq-eqb _ _ (sym c.job_in.ensures ∙ c.if-job_in-job.true))
+
+key_in-requires : tie.Need-key_in-requires
+key_in-requires c κs = search rules
+
+returns-then-key-key_in : tie.Need-returns-then-key-key_in
+returns-then-key-key_in c = other_tile _ _ _ (λ q. c.if-key-key_in.true (sym (c.key_in.ensures ∙ q)))
+
+kind_in-kind-requires : tie.Need-kind_in-kind-requires
+kind_in-kind-requires c κs = search rules
+
+returns-then-kind-eq1 : tie.Need-returns-then-kind-eq1
+returns-then-kind-eq1 c = let f = c.before in by_kind _ _ _ (foreign f) (there f) (rw (eq-eqb _ 1 (sym f.kind_in-kind.ensures ∙ c.if-kind-eq1.true)))
 
 returns : tie.Need-returns
-returns c = rw (eq-eqb _ _ (sym c.before.job-in.ensures ∙ c.if1.true))
-
-key-in-requires : tie.Need-key-in-requires
-key-in-requires c κs = search rules
-
-returns-2 : tie.Need-returns-2
-returns-2 c = other_tile _ _ _ (λ q. c.if2.true (sym (c.before.key_in.ensures ∙ q)))
-
-kind-in-requires : tie.Need-kind-in-requires
-kind-in-requires c κs = search rules
-
-foreign : (c : tie.After-kind-in) → let a = c.before.before.before.before.before.args in job_in a.e ≡ a.job → ⊥
-foreign c q = c.before.before.before.if1.false (c.before.before.before.before.job-in.ensures ∙ q)
-
-there : (c : tie.After-kind-in) → let a = c.before.before.before.before.before.args in key_in a.e ≡ a.key
-there c = sym (c.before.if2.false ∙ c.before.before.key_in.ensures)
-
-returns-3 : tie.Need-returns-3
-returns-3 c = let f = c.before in by_kind _ _ _ (foreign f) (there f) (rw (eq-eqb _ 1 (sym f.kind-in.ensures ∙ c.if3.true)))
-
-returns-4 : tie.Need-returns-4
-returns-4 c =
+returns c =
     let f = c.before in
-    let kind = f.kind-in.ensures in
-    by_kind _ _ _ (foreign f) (there f) (rw (kind, ne_eqb _ 1 (λ e. c.if3.false (kind ∙ e))))
+    let kind = f.kind_in-kind.ensures in
+    by_kind _ _ _ (foreign f) (there f) (rw (kind, ne_eqb _ 1 (λ e. c.if-kind-eq1.false (kind ∙ e))))
 
 pub is_others_change_spec : {M : Type 1} → statement M
 is_others_change_spec =
-    tie.close (tie.spec job-in-requires returns key-in-requires returns-2 kind-in-requires returns-3 returns-4)
+    tie.close
+    (tie.spec
+    job_in-requires
+    returns-then-job_in-job
+    key_in-requires
+    returns-then-key-key_in
+    kind_in-kind-requires
+    returns-then-kind-eq1
+    returns)

@@ -1,0 +1,8 @@
+-- `filter::is_met` meets its contract: where the bit of a tile is not set, the filter covers no entry with it
+use Rattle.filter.specs.Laws.{not_seen}
+use Rattle.filter.proofs.is_met.Goals as goal
+
+pub returns : goal.returns
+returns c es covered unset =
+    let h = c.slot-h in
+    not_seen c.args.seen.now c.args.key h.result h.ensures.0 c.has_bit.ensures unset es covered

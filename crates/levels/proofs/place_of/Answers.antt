@@ -1,0 +1,11 @@
+-- `levels::place_of` meets its contract: a valid key has one of the eleven zooms
+use mathlib.Core.Path.{refl}
+use native.Mathlib.Omega.{arith}
+use Rattle.grid.proofs.Laws.Keys.{parts}
+use Rattle.levels.proofs.place_of.Goals as goal
+
+pub overflow_sub-result : goal.overflow_sub-result
+overflow_sub-result c = omega (arith, (parts c.args.key c.requires).low)
+
+pub returns : goal.returns
+returns c = (refl, omega (arith, (parts c.args.key c.requires).low, (parts c.args.key c.requires).high))

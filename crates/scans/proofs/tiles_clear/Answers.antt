@@ -1,0 +1,26 @@
+-- `scans::tiles_clear` meets its contract: the flag so far and what is left to test pass just where the whole does
+use mathlib.Core.Path.{◌∙◌, sym}
+use Prim.Native.Nat.{◌-◌}
+use native.Mathlib.Omega.{arith}
+use lib.ListN.{length}
+use lib.Seq.{take-length}
+use borrow.Author.Tests.{eq-eqb, ne_eqb}
+use Rattle.lists.specs.Lists.{flag_end, flag_falls, flag_stays}
+use Rattle.scans.proofs.tiles_clear.Goals as goal
+use Rattle.scans.proofs.tiles_clear.Goals.{else-tiles-i-ne0, then-tiles-i-ne0}
+
+pub loop-i-init : goal.loop-i-init
+loop-i-init c = (omega arith, rw take-length)
+
+pub loop-i-preserved : goal.loop-i-preserved
+loop-i-preserved c =
+    let tiles = c.args.tiles.now in
+    let l = c.loop-i in
+    let inside = c.loop-i-test.true in (
+      omega arith,
+      l.invariant.1
+          ∙ elim c.if-tiles-i-ne0.branch [ then-tiles-i-ne0 w ↦ flag_falls tiles (length tiles) l.i (omega arith) inside _ l.clear (ne_eqb _ 0 w.if-tiles-i-ne0.true) w.clear-is | else-tiles-i-ne0 w ↦ flag_stays tiles (length tiles) l.i (omega arith) inside _ l.clear (eq-eqb _ 0 w.if-tiles-i-ne0.false) w.clear-is ],
+    )
+
+pub returns : goal.returns
+returns c = let l = c.loop-i in sym (l.invariant.1 ∙ flag_end _ _ _ _ l.clear c.loop-i-test.false)
