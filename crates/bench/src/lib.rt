@@ -1,4 +1,6 @@
 // The soundness check and the public calls for the program of baseline/ to link: a session comes and goes in its parts, and a reply goes as numbers.
+#![tactic(auto)]
+
 use sanbirogu::{Address, Change, Outcome, Procedure, Rectangle, Rule, Session};
 
 // The rule of a number: 2 for the second, and the first for all others.

@@ -4,9 +4,11 @@ ghost use Rattle.desk.specs.Lent.{Lent};
 use desk::Desk;
 use sanbirogu::Session;
 use script::{Command, Word};
+use terminal::Output;
 
 // Answers one command on what is lent.
 fn answer(
+    out: &mut Output,
     command: Command,
     session: Session,
     tiles: &mut [u32],
@@ -15,17 +17,18 @@ fn answer(
 ) -> Session {
     let word = command.word;
     if let Word::Show = word {
-        picture::show(session, tiles, operations, journal);
+        picture::show(out, session, tiles, operations, journal);
         return session;
     }
-    if looks::look(command, session, tiles, operations, journal) {
+    if looks::look(out, command, session, tiles, operations, journal) {
         return session;
     }
-    desk::answer(command, session, tiles, operations, journal)
+    desk::answer(out, command, session, tiles, operations, journal)
 }
 
 // Answers one line.
 pub fn answer_line(
+    out: &mut Output,
     desk: Desk,
     line: &[u8],
     tiles: &mut [u32],
@@ -38,13 +41,14 @@ pub fn answer_line(
     let command = script::parse(line);
     let word = command.word;
     if let Word::Lend = word {
-        return desk::lend(desk, command, tiles, operations, journal);
+        return desk::lend(out, desk, command, tiles, operations, journal);
     }
     let t = desk.tiles;
     let o = desk.operations;
     let j = desk.journal;
     let session = desk.session;
     let next = answer(
+        out,
         command,
         session,
         &mut tiles[..t],

@@ -1,9 +1,14 @@
 // Tries the rules by hand: reads commands from standard input, one to a line, and answers each as soon as it is read. docs/CONSOLE.md
 // has the answers.
+#![tactic(auto)]
+
 ghost use Rattle.std.specs.Prelude.{◌≡◌, ◌*◌, ◌+◌, ◌≤◌, length};
 ghost use Rattle.desk.specs.Lent.{Lent};
 
 use desk::Desk;
+use std::io;
+use std::io::Stdin;
+use terminal::Output;
 
 mod commands;
 
@@ -18,6 +23,7 @@ struct Progress {
 // Answers every line of a text that its line feed ends, up to the place where the rest begins. Each line that may still come stands for
 // as many bytes as the space holds: counted so, what may still be read falls with every read, and the loop below ends.
 fn answer_lines(
+    out: &mut Output,
     desk: Desk,
     left: u64,
     text: &[u8],
@@ -37,7 +43,7 @@ fn answer_lines(
         if end == text.len() {
             break;
         }
-        reached = commands::answer_line(reached, &text[at..end], tiles, operations, journal);
+        reached = commands::answer_line(out, reached, &text[at..end], tiles, operations, journal);
         at = end + 1;
         more -= 1;
     }
@@ -49,14 +55,15 @@ fn answer_lines(
 }
 
 // Says so where the input did not end, but could not be read.
-fn say_end(failed: bool) {
+fn say_end(out: &mut Output, failed: bool) {
     if failed {
-        terminal::print_unreadable();
+        terminal::print_unreadable(out);
     }
 }
 
 // Answers the lines in the first `end` bytes of the space, and keeps what is left at its front: the place where reading goes on.
 fn answer_so_far(
+    out: &mut Output,
     desk: Desk,
     left: u64,
     space: &mut [u8],
@@ -69,7 +76,7 @@ fn answer_so_far(
     ensures { (result.at ≤ 65536) × (end + result.left * 65536 ≤ result.at + left * 65536)
         × Lent result.desk tiles.old operations.old journal.old }
 {
-    let done = answer_lines(desk, left, &space[..end], tiles, operations, journal);
+    let done = answer_lines(out, desk, left, &space[..end], tiles, operations, journal);
     let reached = done.desk;
     let rest = script::keep(space, done.at, end, done.left);
     Progress {
@@ -79,31 +86,50 @@ fn answer_so_far(
     }
 }
 
-// Reads on and answers each line that ends, until the input does.
-fn answer_input(space: &mut [u8], tiles: &mut [u32], operations: &mut [u64], journal: &mut [u8])
+// Reads on and answers each line that ends, until the input does or an answer cannot be written.
+fn answer_input(
+    source: Stdin,
+    out: &mut Output,
+    space: &mut [u8],
+    tiles: &mut [u32],
+    operations: &mut [u64],
+    journal: &mut [u8],
+)
     requires { length space.old ≡ 65536 }
 {
     let mut desk = desk::empty();
     let mut at: usize = 0;
     let mut left: u64 = 4294967296;
     while 0 < left {
-        let input = terminal::read_some(space, at);
+        let input = terminal::read_some(source, space, at);
         if input.bytes == 0 {
-            say_end(input.failed);
+            say_end(out, input.failed);
             return;
         }
         let end = at + input.bytes;
-        let next = answer_so_far(desk, left, space, end, tiles, operations, journal);
+        let next = answer_so_far(out, desk, left, space, end, tiles, operations, journal);
         desk = next.desk;
         at = next.at;
         left = next.left;
+        if out.has_failed() {
+            return;
+        }
     }
 }
 
-fn main() {
+fn main(rt: HostRuntime) -> io::Result<()> {
+    let mut out = Output::new(rt.stdout());
     let mut space = [0u8; 65536];
     let mut tiles = [0u32; 5000];
     let mut operations = [0u64; 1200];
     let mut journal = [0u8; 66000];
-    answer_input(&mut space, &mut tiles, &mut operations, &mut journal);
+    answer_input(
+        rt.stdin(),
+        &mut out,
+        &mut space,
+        &mut tiles,
+        &mut operations,
+        &mut journal,
+    );
+    out.end()
 }

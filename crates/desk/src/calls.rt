@@ -3,6 +3,7 @@ use crate::outside;
 use crate::outside::Numbered;
 use sanbirogu::{Address, Change, Outcome, Procedure, Rectangle, Session};
 use script::{Command, Word, byte_of, job_of, sheet_of, signed};
+use terminal::Output;
 
 fn operation_address(command: Command) -> Address {
     Address {
@@ -24,21 +25,22 @@ fn rectangle_of(command: Command) -> Rectangle {
     }
 }
 
-fn answered(outcome: Outcome) -> Session {
+fn answered(out: &mut Output, outcome: Outcome) -> Session {
     let reply = outcome.reply;
-    answers::print_reply(b"reply ", reply);
+    answers::print_reply(out, b"reply ", reply);
     let session = outcome.session;
     session
 }
 
-fn answered_whole(outcome: Outcome) -> Session {
+fn answered_whole(out: &mut Output, outcome: Outcome) -> Session {
     let reply = outcome.reply;
-    answers::print_whole(reply);
+    answers::print_whole(out, reply);
     let session = outcome.session;
     session
 }
 
 fn begin(
+    out: &mut Output,
     command: Command,
     session: Session,
     tiles: &[u32],
@@ -47,11 +49,14 @@ fn begin(
 ) -> Session {
     match outside::rule_of(script::second(command)) {
         Numbered::Nothing => {
-            answers::refuse();
+            answers::refuse(out);
             session
         }
         Numbered::Known(rule) => {
-            answered(sanbirogu::start(tiles, script::first(command), operations, journal, rule))
+            answered(
+                out,
+                sanbirogu::start(tiles, script::first(command), operations, journal, rule),
+            )
         }
     }
 }
@@ -66,6 +71,7 @@ fn procedure_of(word: Word) -> Procedure {
 }
 
 fn operate(
+    out: &mut Output,
     command: Command,
     session: Session,
     tiles: &mut [u32],
@@ -77,9 +83,12 @@ fn operate(
     let sheet = sheet_of(command);
     let procedure = procedure_of(word);
     let address = operation_address(command);
-    answered(sanbirogu::operation(
-        session, tiles, operations, journal, job, sheet, procedure, address,
-    ))
+    answered(
+        out,
+        sanbirogu::operation(
+            session, tiles, operations, journal, job, sheet, procedure, address,
+        ),
+    )
 }
 
 // What is done to each tile, of a word that names it.
@@ -91,6 +100,7 @@ fn change_of(word: Word) -> Change {
 }
 
 fn operate_all(
+    out: &mut Output,
     command: Command,
     session: Session,
     tiles: &mut [u32],
@@ -102,7 +112,10 @@ fn operate_all(
     let sheet = sheet_of(command);
     let change = change_of(word);
     let r = rectangle_of(command);
-    answered_whole(sanbirogu::rectangle(session, tiles, operations, journal, job, sheet, change, r))
+    answered_whole(
+        out,
+        sanbirogu::rectangle(session, tiles, operations, journal, job, sheet, change, r),
+    )
 }
 
 // Opens a job, or ends it: only the words `open`, `commit` and `abort` come here.
@@ -124,6 +137,7 @@ fn call_job(
 
 // Answers one command on what is lent.
 pub fn answer(
+    out: &mut Output,
     command: Command,
     session: Session,
     tiles: &mut [u32],
@@ -132,12 +146,16 @@ pub fn answer(
 ) -> Session {
     let word = command.word;
     match word {
-        Word::Start => begin(command, session, tiles, operations, journal),
+        Word::Start => begin(out, command, session, tiles, operations, journal),
         Word::Open | Word::Commit | Word::Abort => {
-            answered(call_job(command, session, tiles, operations, journal))
+            answered(out, call_job(command, session, tiles, operations, journal))
         }
-        Word::Ins | Word::Del | Word::Mem => operate(command, session, tiles, operations, journal),
-        Word::InsAll | Word::DelAll => operate_all(command, session, tiles, operations, journal),
-        _ => outside::change(command, session, tiles, operations, journal),
+        Word::Ins | Word::Del | Word::Mem => operate(
+            out, command, session, tiles, operations, journal,
+        ),
+        Word::InsAll | Word::DelAll => operate_all(
+            out, command, session, tiles, operations, journal,
+        ),
+        _ => outside::change(out, command, session, tiles, operations, journal),
     }
 }

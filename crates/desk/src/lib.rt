@@ -1,10 +1,13 @@
 // A session with its lent tables: lending, and the commands that change them.
+#![tactic(auto)]
+
 ghost use Rattle.std.specs.Prelude.{◌≡◌};
 ghost use Rattle.desk.specs.Lent.{Lent};
 
 pub use calls::answer;
 use sanbirogu::Session;
 use script::Command;
+use terminal::Output;
 
 mod calls;
 mod outside;
@@ -56,6 +59,7 @@ fn clear_journal(journal: &mut [u8]) {
 
 // Lends so many places of each table, all 0, with an empty session.
 pub fn lend(
+    out: &mut Output,
     desk: Desk,
     command: Command,
     tiles: &mut [u32],
@@ -69,13 +73,13 @@ pub fn lend(
     let o = script::second(command);
     let j = script::third(command);
     if tiles.len() < t || operations.len() < o || journal.len() < j {
-        answers::refuse();
+        answers::refuse(out);
         return desk;
     }
     clear_tiles(tiles);
     clear_operations(operations);
     clear_journal(journal);
-    answers::print_lent(t, o, j);
+    answers::print_lent(out, t, o, j);
     Desk {
         session: sanbirogu::empty_session(),
         tiles: t,

@@ -2,6 +2,7 @@
 use answers::{agree, refuse};
 use sanbirogu::{Rule, Session};
 use script::{Command, Word, byte_of};
+use terminal::Output;
 
 // The rule of a number, if there is one.
 #[derive(Clone, Copy)]
@@ -18,50 +19,50 @@ pub fn rule_of(number: usize) -> Numbered {
     }
 }
 
-fn put_tile(tiles: &mut [u32], place: usize, key: u32) {
+fn put_tile(out: &mut Output, tiles: &mut [u32], place: usize, key: u32) {
     if tiles.len() <= place {
-        refuse();
+        refuse(out);
         return;
     }
     tiles[place] = key;
-    agree();
+    agree(out);
 }
 
-fn put_entry(operations: &mut [u64], place: usize, entry: u64) {
+fn put_entry(out: &mut Output, operations: &mut [u64], place: usize, entry: u64) {
     if operations.len() <= place {
-        refuse();
+        refuse(out);
         return;
     }
     operations[place] = entry;
-    agree();
+    agree(out);
 }
 
-fn put_byte(journal: &mut [u8], place: usize, byte: u8) {
+fn put_byte(out: &mut Output, journal: &mut [u8], place: usize, byte: u8) {
     if journal.len() <= place {
-        refuse();
+        refuse(out);
         return;
     }
     journal[place] = byte;
-    agree();
+    agree(out);
 }
 
-fn with_mark(session: Session, job: usize, bit: usize) -> Session {
+fn with_mark(out: &mut Output, session: Session, job: usize, bit: usize) -> Session {
     if 63 < job {
-        refuse();
+        refuse(out);
         return session;
     }
     if 1 < bit {
-        refuse();
+        refuse(out);
         return session;
     }
     let mut changed = session;
     changed.marks[job] = bit == 1;
-    agree();
+    agree(out);
     changed
 }
 
 // The count that a word names, set.
-fn with_count(session: Session, word: Word, count: usize) -> Session {
+fn with_count(out: &mut Output, session: Session, word: Word, count: usize) -> Session {
     let mut changed = session;
     match word {
         Word::Tiles => changed.tiles = count,
@@ -69,18 +70,18 @@ fn with_count(session: Session, word: Word, count: usize) -> Session {
         Word::Journal => changed.journal = count,
         _ => changed.spoken = count,
     }
-    agree();
+    agree(out);
     changed
 }
 
-fn with_rule(session: Session, number: usize) -> Session {
+fn with_rule(out: &mut Output, session: Session, number: usize) -> Session {
     match rule_of(number) {
         Numbered::Nothing => {
-            refuse();
+            refuse(out);
             session
         }
         Numbered::Known(rule) => {
-            agree();
+            agree(out);
             let marks = session.marks;
             let levels = session.levels;
             Session {
@@ -96,23 +97,24 @@ fn with_rule(session: Session, number: usize) -> Session {
     }
 }
 
-fn with_level(session: Session, zoom: usize, count: usize) -> Session {
+fn with_level(out: &mut Output, session: Session, zoom: usize, count: usize) -> Session {
     if zoom < 4 {
-        refuse();
+        refuse(out);
         return session;
     }
     let place = zoom - 4;
     if 10 < place {
-        refuse();
+        refuse(out);
         return session;
     }
     let mut changed = session;
     changed.levels[place] = count;
-    agree();
+    agree(out);
     changed
 }
 
 pub fn change(
+    out: &mut Output,
     command: Command,
     session: Session,
     tiles: &mut [u32],
@@ -123,16 +125,16 @@ pub fn change(
     let place = script::first(command);
     let value = command.values[1];
     match word {
-        Word::Tile => put_tile(tiles, place, (value % 4294967296) as u32),
-        Word::Entry => put_entry(operations, place, value),
-        Word::Byte => put_byte(journal, place, byte_of(value)),
+        Word::Tile => put_tile(out, tiles, place, (value % 4294967296) as u32),
+        Word::Entry => put_entry(out, operations, place, value),
+        Word::Byte => put_byte(out, journal, place, byte_of(value)),
         Word::Tiles | Word::Operations | Word::Journal | Word::Spoken => {
-            return with_count(session, word, place)
+            return with_count(out, session, word, place)
         }
-        Word::Mark => return with_mark(session, place, value as usize),
-        Word::Rule => return with_rule(session, place),
-        Word::Level => return with_level(session, place, value as usize),
-        _ => refuse(),
+        Word::Mark => return with_mark(out, session, place, value as usize),
+        Word::Rule => return with_rule(out, session, place),
+        Word::Level => return with_level(out, session, place, value as usize),
+        _ => refuse(out),
     }
     session
 }

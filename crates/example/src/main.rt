@@ -1,7 +1,10 @@
 // The README's example: three lent buffers, a tile and a sheet in one job, and what the journal then replays to.
+#![tactic(auto)]
+
 use answers::print_reply;
 use sanbirogu::{Address, Change, Procedure, Rectangle, Rule};
-use terminal::{print_line_end, print_named};
+use std::io;
+use terminal::{Output, print_line_end, print_named};
 
 // A tile left of 180 degrees, and what a sheet covers that crosses it.
 fn place() -> Address {
@@ -24,7 +27,8 @@ fn covered() -> Rectangle {
     }
 }
 
-fn main() {
+fn main(rt: HostRuntime) -> io::Result<()> {
+    let mut out = Output::new(rt.stdout());
     let mut tiles = [0u32; 4096];
     let mut operations = [0u64; 1024];
     let mut journal = [0u8; 65536];
@@ -41,7 +45,7 @@ fn main() {
         place(),
     );
     let told = put.reply;
-    print_reply(b"insert: ", told);
+    print_reply(&mut out, b"insert: ", told);
     let put_all = sanbirogu::rectangle(
         put.session,
         &mut tiles,
@@ -54,9 +58,10 @@ fn main() {
     );
     let ended = sanbirogu::commit(put_all.session, &tiles, &mut operations, &mut journal, 3);
     let reply = ended.reply;
-    print_reply(b"commit: ", reply);
+    print_reply(&mut out, b"commit: ", reply);
     let session = ended.session;
-    print_named(b"tiles: ", session.tiles as u64);
-    print_named(b", journal bytes: ", session.journal as u64);
-    print_line_end();
+    print_named(&mut out, b"tiles: ", session.tiles as u64);
+    print_named(&mut out, b", journal bytes: ", session.journal as u64);
+    print_line_end(&mut out);
+    out.end()
 }

@@ -1,6 +1,9 @@
 // The commands that leave the session as it is, but for the one that shows it.
+#![tactic(auto)]
+
 use sanbirogu::{Address, Session};
 use script::{Command, Word, byte_of, first, second, signed, third};
+use terminal::Output;
 
 mod checksum;
 mod help;
@@ -15,16 +18,17 @@ fn lone_address(command: Command) -> Address {
 }
 
 // The journal of a session is its used bytes.
-fn read(session: Session, journal: &[u8], place: usize) {
+fn read(out: &mut Output, session: Session, journal: &[u8], place: usize) {
     let used = session.journal;
     if journal.len() < used {
-        answers::print_read(by_reader::read_at(journal, place), place);
+        answers::print_read(out, by_reader::read_at(journal, place), place);
         return;
     }
-    answers::print_read(by_reader::read_at(&journal[..used], place), place);
+    answers::print_read(out, by_reader::read_at(&journal[..used], place), place);
 }
 
 fn run_replay(
+    out: &mut Output,
     tiles: &mut [u32],
     operations: &mut [u64],
     journal: &[u8],
@@ -32,13 +36,17 @@ fn run_replay(
     length: usize,
 ) {
     if journal.len() < length {
-        answers::refuse();
+        answers::refuse(out);
         return;
     }
-    answers::print_replayed(sanbirogu::replay(&journal[..length], tiles, count, operations));
+    answers::print_replayed(
+        out,
+        sanbirogu::replay(&journal[..length], tiles, count, operations),
+    );
 }
 
 fn mend_into(
+    out: &mut Output,
     tiles: &mut [u32],
     operations: &mut [u64],
     journal: &[u8],
@@ -46,11 +54,12 @@ fn mend_into(
     output: &mut [u8],
 ) {
     let mended = sanbirogu::mend(journal, tiles, count, operations, output);
-    answers::print_mended(mended, checksum::sum_of_bytes(output));
+    answers::print_mended(out, mended, checksum::sum_of_bytes(output));
 }
 
 // The same into the first bytes of an output, if it has so many.
 fn mend_within(
+    out: &mut Output,
     tiles: &mut [u32],
     operations: &mut [u64],
     journal: &[u8],
@@ -59,14 +68,15 @@ fn mend_within(
     room: usize,
 ) {
     if output.len() < room {
-        answers::refuse();
+        answers::refuse(out);
         return;
     }
-    mend_into(tiles, operations, journal, count, &mut output[..room]);
+    mend_into(out, tiles, operations, journal, count, &mut output[..room]);
 }
 
 // An output is lent whose bytes all hold 255 before.
 fn run_mend(
+    out: &mut Output,
     tiles: &mut [u32],
     operations: &mut [u64],
     journal: &[u8],
@@ -75,11 +85,12 @@ fn run_mend(
     room: usize,
 ) {
     if journal.len() < length {
-        answers::refuse();
+        answers::refuse(out);
         return;
     }
     let mut output = [255u8; 66000];
     mend_within(
+        out,
         tiles,
         operations,
         &journal[..length],
@@ -91,6 +102,7 @@ fn run_mend(
 
 // Whether the command is such a one; it is answered then.
 pub fn look(
+    out: &mut Output,
     command: Command,
     session: Session,
     tiles: &mut [u32],
@@ -100,11 +112,19 @@ pub fn look(
     let word = command.word;
     match word {
         Word::Address => {
-            answers::print_located(b"reply ", sanbirogu::address(lone_address(command)))
+            answers::print_located(out, b"reply ", sanbirogu::address(lone_address(command)))
         }
-        Word::Read => read(session, journal, first(command)),
-        Word::Replay => run_replay(tiles, operations, journal, first(command), second(command)),
+        Word::Read => read(out, session, journal, first(command)),
+        Word::Replay => run_replay(
+            out,
+            tiles,
+            operations,
+            journal,
+            first(command),
+            second(command),
+        ),
         Word::Mend => run_mend(
+            out,
             tiles,
             operations,
             journal,
@@ -112,9 +132,9 @@ pub fn look(
             second(command),
             third(command),
         ),
-        Word::Levels => answers::print_levels(session),
-        Word::Sum => answers::print_sum(checksum::sum(session, tiles, operations, journal)),
-        Word::Help => help::print_commands(),
+        Word::Levels => answers::print_levels(out, session),
+        Word::Sum => answers::print_sum(out, checksum::sum(session, tiles, operations, journal)),
+        Word::Help => help::print_commands(out),
         _ => return false,
     }
     true

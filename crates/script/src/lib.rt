@@ -1,4 +1,6 @@
 // A line of the console taken apart: a word and its numbers, separated by exactly one space, with nothing before or after.
+#![tactic(auto)]
+
 ghost use Rattle.std.specs.Prelude.{◌≤◌, length};
 
 pub use lines::{Unfinished, find, keep};

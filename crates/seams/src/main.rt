@@ -1,6 +1,10 @@
 // Runs the seam cases on the calls and prints every reply: its number, its answer and its holder.
+#![tactic(auto)]
+
 use playing::{show_address, tell, tell_briefly, tell_together};
 use sanbirogu::Rule;
+use std::io;
+use terminal::Output;
 
 mod playing;
 
@@ -8,18 +12,27 @@ mod playing;
 const A: u32 = 1073987589;
 
 // Undo by inverses between two jobs: the cases of the report.
-fn two_jobs() {
-    tell(b"No tiles, both insert A", 2, 0, 0, b"1(  2(  1+A 2+A ");
-    tell(b"No tiles, insert A and ask", 2, 0, 0, b"1(  1+A 1?A ");
+fn two_jobs(out: &mut Output) {
     tell(
+        out,
+        b"No tiles, both insert A",
+        2,
+        0,
+        0,
+        b"1(  2(  1+A 2+A ",
+    );
+    tell(out, b"No tiles, insert A and ask", 2, 0, 0, b"1(  1+A 1?A ");
+    tell(
+        out,
         b"A, insert and delete",
         2,
         A,
         1,
         b"1(  2(  1+A 2-A 1!  2)  3(  3?A ",
     );
-    tell(b"A, ask and delete", 2, A, 1, b"1(  2(  1?A 2-A ");
+    tell(out, b"A, ask and delete", 2, A, 1, b"1(  2(  1?A 2-A ");
     tell(
+        out,
         b"No tiles, delete and insert",
         2,
         0,
@@ -29,8 +42,9 @@ fn two_jobs() {
 }
 
 // A tile that is deleted keeps its place until the delete has committed.
-fn one_place() {
+fn one_place(out: &mut Output) {
     tell(
+        out,
         b"One place, delete A and insert B",
         1,
         A,
@@ -38,18 +52,20 @@ fn one_place() {
         b"1(  2(  1-A 2+B 1)  2+B ",
     );
     tell(
+        out,
         b"One place, delete A and insert A",
         1,
         A,
         1,
         b"1(  2(  1-A 2+A ",
     );
-    tell(b"One place, insert A", 1, A, 1, b"1(  1+A ");
+    tell(out, b"One place, insert A", 1, A, 1, b"1(  1+A ");
 }
 
 // A job sees its own tiles where it fails as one.
-fn own_tiles() {
+fn own_tiles(out: &mut Output) {
     tell_together(
+        out,
         b"Rule 2, no tiles, insert A and ask",
         2,
         0,
@@ -57,6 +73,7 @@ fn own_tiles() {
         b"1(  1+A 1?A ",
     );
     tell_together(
+        out,
         b"Rule 2, A, replace it and abort",
         2,
         A,
@@ -64,6 +81,7 @@ fn own_tiles() {
         b"1(  1-A 1+A 1!  2(  2?A ",
     );
     tell_together(
+        out,
         b"Rule 2, no tiles, held though strict",
         2,
         0,
@@ -73,8 +91,9 @@ fn own_tiles() {
 }
 
 // And a place that it has freed is its own.
-fn own_room() {
+fn own_room(out: &mut Output) {
     tell_together(
+        out,
         b"Rule 2, one place, replace A",
         1,
         A,
@@ -82,6 +101,7 @@ fn own_room() {
         b"1(  1-A 1+A 1-A 1+B ",
     );
     tell_together(
+        out,
         b"Rule 2, one place that no outcome needs",
         1,
         0,
@@ -89,6 +109,7 @@ fn own_room() {
         b"1(  1+A 1-A 1+B 1)  1(  1+B ",
     );
     tell_briefly(
+        out,
         Rule::Together,
         b"Rule 2, journal of 3 bytes",
         &mut [0; 3],
@@ -97,16 +118,25 @@ fn own_room() {
 }
 
 // Each reply from 1 to 9 and 14, and that the first of them is given.
-fn refusals() {
+fn refusals(out: &mut Output) {
     tell(
+        out,
         b"Addresses out of range",
         1,
         0,
         0,
         b"1(  1+s 1?l 1-h 1+n 1+x ",
     );
-    tell(b"One tile by both editions", 1, 0, 0, b"1(  2(  1+a 2+A ");
     tell(
+        out,
+        b"One tile by both editions",
+        1,
+        0,
+        0,
+        b"1(  2(  1+a 2+A ",
+    );
+    tell(
+        out,
         b"The job is looked at first",
         1,
         0,
@@ -114,6 +144,7 @@ fn refusals() {
         b"z(  z+x z)  z!  1+x 1)  1!  1(  1(  ",
     );
     tell(
+        out,
         b"Operations table full",
         1,
         0,
@@ -121,31 +152,34 @@ fn refusals() {
         b"1(  1?A 1-B 1?A 1-B 1?A 1+B 1)  1(  ",
     );
     tell_briefly(
+        out,
         Rule::Alone,
         b"Journal of 22 bytes",
         &mut [0; 22],
         b"1(  2(  1?A 2(  1!  3(  2)  ",
     );
-    tell(b"A count past the table", 1, 0, 2, b"1(  1?A 1)  1!  ");
-    tell(b"A key behind the count", 1, A, 0, b"1(  1?A 1)  1!  ");
+    tell(out, b"A count past the table", 1, 0, 2, b"1(  1?A 1)  1!  ");
+    tell(out, b"A key behind the count", 1, A, 0, b"1(  1?A 1)  1!  ");
 }
 
-fn addresses() {
-    show_address(b"2 4 -1 5", b'A');
-    show_address(b"2 4 16 0", b'B');
-    show_address(b"2 4 0 16", b's');
-    show_address(b"2 3 0 0", b'l');
-    show_address(b"2 15 0 0", b'h');
-    show_address(b"1 4 -1 10", b'a');
-    show_address(b"1 4 0 -1", b'n');
-    show_address(b"3 4 0 16", b'x');
+fn addresses(out: &mut Output) {
+    show_address(out, b"2 4 -1 5", b'A');
+    show_address(out, b"2 4 16 0", b'B');
+    show_address(out, b"2 4 0 16", b's');
+    show_address(out, b"2 3 0 0", b'l');
+    show_address(out, b"2 15 0 0", b'h');
+    show_address(out, b"1 4 -1 10", b'a');
+    show_address(out, b"1 4 0 -1", b'n');
+    show_address(out, b"3 4 0 16", b'x');
 }
 
-fn main() {
-    addresses();
-    two_jobs();
-    one_place();
-    own_tiles();
-    own_room();
-    refusals();
+fn main(rt: HostRuntime) -> io::Result<()> {
+    let mut out = Output::new(rt.stdout());
+    addresses(&mut out);
+    two_jobs(&mut out);
+    one_place(&mut out);
+    own_tiles(&mut out);
+    own_room(&mut out);
+    refusals(&mut out);
+    out.end()
 }

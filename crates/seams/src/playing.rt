@@ -2,15 +2,15 @@
 ghost use Rattle.std.specs.Prelude.{◌≤◌, length};
 
 use sanbirogu::{Address, Outcome, Procedure, Reply, Rule, Session};
-use terminal::{print, print_line_end, print_named};
+use terminal::{Output, print, print_line_end, print_named};
 
-fn print_reply(reply: Reply) {
-    answers::print_reply(b" -> ", reply);
+fn print_reply(out: &mut Output, reply: Reply) {
+    answers::print_reply(out, b" -> ", reply);
 }
 
-fn print_count(session: Session) {
-    print_named(b"  tiles ", session.tiles as u64);
-    print_line_end();
+fn print_count(out: &mut Output, session: Session) {
+    print_named(out, b"  tiles ", session.tiles as u64);
+    print_line_end(out);
 }
 
 fn at(edition: u8, zoom: u8, column: i32, row: i32) -> Address {
@@ -37,9 +37,9 @@ fn address_of(tile: u8) -> Address {
     }
 }
 
-pub fn show_address(name: &[u8], tile: u8) {
-    print(name);
-    answers::print_located(b" -> ", sanbirogu::address(address_of(tile)));
+pub fn show_address(out: &mut Output, name: &[u8], tile: u8) {
+    print(out, name);
+    answers::print_located(out, b" -> ", sanbirogu::address(address_of(tile)));
 }
 
 // A digit is a job; anything else is job 64.
@@ -93,6 +93,7 @@ fn call(
 
 // One call of a story, named by three bytes: the job, the call and the tile. Answers the session after it.
 fn step(
+    out: &mut Output,
     session: Session,
     tiles: &mut [u32],
     operations: &mut [u64],
@@ -104,14 +105,15 @@ fn step(
     let job = job_of(named[0]);
     let done = call(session, tiles, operations, journal, job, named[1], named[2]);
     let reply = done.reply;
-    print(b"  ");
-    print(named);
-    print_reply(reply);
+    print(out, b"  ");
+    print(out, named);
+    print_reply(out, reply);
     done.session
 }
 
 // Tells a story from a start: four bytes for each call, of which the last is a space.
 fn play(
+    out: &mut Output,
     rule: Rule,
     name: &[u8],
     tiles: &mut [u32],
@@ -120,27 +122,36 @@ fn play(
     journal: &mut [u8],
     story: &[u8],
 ) {
-    print(name);
+    print(out, name);
     let begun = sanbirogu::start(tiles, count, operations, journal, rule);
     let reply = begun.reply;
-    print_reply(reply);
+    print_reply(out, reply);
     let mut session = begun.session;
     let mut at: usize = 0;
     while at + 4 <= story.len() {
-        session = step(session, tiles, operations, journal, &story[at..at + 3]);
+        session = step(out, session, tiles, operations, journal, &story[at..at + 3]);
         at += 4;
     }
-    print_count(session);
+    print_count(out, session);
 }
 
 // The same with room for four operations and 64 bytes of journal, on one place for a tile or two: this key in the first, and nothing in the other.
-fn tell_by(rule: Rule, name: &[u8], places: usize, key: u32, count: usize, story: &[u8])
+fn tell_by(
+    out: &mut Output,
+    rule: Rule,
+    name: &[u8],
+    places: usize,
+    key: u32,
+    count: usize,
+    story: &[u8],
+)
     requires { places ≤ 2 }
 {
     let mut tiles = [key, 0];
     let mut operations = [0u64; 4];
     let mut journal = [0u8; 64];
     play(
+        out,
         rule,
         name,
         &mut tiles[..places],
@@ -151,19 +162,26 @@ fn tell_by(rule: Rule, name: &[u8], places: usize, key: u32, count: usize, story
     );
 }
 
-pub fn tell(name: &[u8], places: usize, key: u32, count: usize, story: &[u8])
+pub fn tell(out: &mut Output, name: &[u8], places: usize, key: u32, count: usize, story: &[u8])
     requires { places ≤ 2 }
 {
-    tell_by(Rule::Alone, name, places, key, count, story);
+    tell_by(out, Rule::Alone, name, places, key, count, story);
 }
 
-pub fn tell_together(name: &[u8], places: usize, key: u32, count: usize, story: &[u8])
+pub fn tell_together(
+    out: &mut Output,
+    name: &[u8],
+    places: usize,
+    key: u32,
+    count: usize,
+    story: &[u8],
+)
     requires { places ≤ 2 }
 {
-    tell_by(Rule::Together, name, places, key, count, story);
+    tell_by(out, Rule::Together, name, places, key, count, story);
 }
 
 // The same with room for one tile, one operation and a journal that is soon full.
-pub fn tell_briefly(rule: Rule, name: &[u8], journal: &mut [u8], story: &[u8]) {
-    play(rule, name, &mut [0], 0, &mut [0], journal, story);
+pub fn tell_briefly(out: &mut Output, rule: Rule, name: &[u8], journal: &mut [u8], story: &[u8]) {
+    play(out, rule, name, &mut [0], 0, &mut [0], journal, story);
 }

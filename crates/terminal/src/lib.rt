@@ -1,8 +1,11 @@
 // What the programs share: all of standard input, and text and numbers on standard output and standard error.
-ghost use Rattle.std.specs.Prelude.{◌-◌, ◌≤◌, length};
-ghost use Rattle.io.specs.Counts.{IsPrefixLen};
+#![tactic(auto)]
 
-use libc::{STDERR_FILENO, STDIN_FILENO, STDOUT_FILENO};
+ghost use Rattle.std.specs.Prelude.{◌-◌, ◌≤◌, length};
+ghost use Rattle.terminal.specs.Counts.{IsPrefixLen};
+
+use std::io;
+use std::io::{Print, Read, Stderr, Stdin, Stdout};
 
 // What was read: so many bytes, and whether reading failed after them.
 #[derive(Clone, Copy)]
@@ -11,68 +14,105 @@ pub struct Input {
     pub failed: bool,
 }
 
-pub fn print(text: &[u8]) {
-    io::write_all(STDOUT_FILENO, text);
+// Standard output. Each text is written at once; after a write that failed none is, so that what was written is a beginning of what was meant.
+#[derive(Drop)]
+pub struct Output {
+    stream: Stdout,
+    failure: Option<io::Error>,
 }
 
-fn print_number(n: u64) {
-    io::print_decimal(STDOUT_FILENO, n);
-}
+impl Output {
+    pub fn new(stream: Stdout) -> Output {
+        Output {
+            stream,
+            failure: None,
+        }
+    }
 
-// A number with its name before it.
-pub fn print_named(name: &[u8], n: u64) {
-    print(name);
-    print_number(n);
-}
+    pub fn has_failed(&self) -> bool {
+        self.failure.is_some()
+    }
 
-// The same of a number that may be below 0. Its distance from -1 fits also at the least number.
-pub fn print_signed(name: &[u8], n: i32) {
-    if n < 0 {
-        print(name);
-        print_named(b"-", (-1 - n) as u64 + 1);
-    } else {
-        print_named(name, n as u64);
+    // What a program that has nothing more to print returns.
+    pub fn end(self) -> io::Result<()> {
+        match self.failure {
+            None => Ok(()),
+            Some(error) => Err(error),
+        }
     }
 }
 
-pub fn print_line_end() {
-    print(b"\n");
+pub fn print(out: &mut Output, text: &[u8]) {
+    if out.failure.is_none() {
+        out.failure = out.stream.write_all(text).err();
+    }
+}
+
+fn print_number(out: &mut Output, n: u64) {
+    if out.failure.is_none() {
+        out.failure = out.stream.print(n).err();
+    }
+}
+
+// A number with its name before it.
+pub fn print_named(out: &mut Output, name: &[u8], n: u64) {
+    print(out, name);
+    print_number(out, n);
+}
+
+// The same of a number that may be below 0. Its distance from -1 fits also at the least number.
+pub fn print_signed(out: &mut Output, name: &[u8], n: i32) {
+    if n < 0 {
+        print(out, name);
+        print_named(out, b"-", (-1 - n) as u64 + 1);
+    } else {
+        print_named(out, name, n as u64);
+    }
+}
+
+pub fn print_line_end(out: &mut Output) {
+    print(out, b"\n");
 }
 
 // The end of a program whose input cannot be read.
-pub fn print_unreadable() {
-    print(b"unreadable input\n");
+pub fn print_unreadable(out: &mut Output) {
+    print(out, b"unreadable input\n");
 }
 
-pub fn complain(text: &[u8]) {
-    io::write_all(STDERR_FILENO, text);
+// Where a complaint cannot be written, there is no place left to say so.
+pub fn complain(errors: Stderr, text: &[u8]) {
+    let _ = errors.write_all(text);
 }
 
-pub fn complain_named(name: &[u8], n: u64) {
-    complain(name);
-    io::print_decimal(STDERR_FILENO, n);
+pub fn complain_named(errors: Stderr, name: &[u8], n: u64) {
+    complain(errors, name);
+    let _ = errors.print(n);
 }
 
 // One read into the places from `from` on: what is there by now, at a terminal a line. No byte comes where the input has ended.
-pub fn read_some(space: &mut [u8], from: usize) -> Input
+pub fn read_some(mut source: Stdin, space: &mut [u8], from: usize) -> Input
     requires { from ≤ length space.old }
     ensures { result.bytes ≤ length space.old - from }
 {
-    let rest = &mut space[from..];
-    let got = libc::read(STDIN_FILENO, rest);
-    Input {
-        bytes: io::count(got, rest),
-        failed: got < 0,
+    match source.read(&mut space[from..]) {
+        Ok(bytes) => Input {
+            bytes,
+            failed: false,
+        },
+        Err(_) => Input {
+            bytes: 0,
+            failed: true,
+        },
     }
 }
 
 // Reads until the input ends, reading fails or the space is full.
-pub fn read_all(space: &mut [u8]) -> Input
+pub fn read_all(source: Stdin, space: &mut [u8]) -> Input
     ensures { IsPrefixLen result.bytes space.new }
 {
     let mut used: usize = 0;
     while used < space.len() {
-        let got = read_some(space, used);
+        let got = read_some(source, space, used);
         if got.bytes == 0 {
             return Input {
                 bytes: used,
