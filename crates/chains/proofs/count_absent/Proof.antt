@@ -14,148 +14,144 @@ use Rattle.chains.proofs.Passes.{counted_more, counted_same, counted_in, is_dele
 use Rattle.chains.proofs.count_absent.Statement.{statement}
 use Rattle.chains.proofs.count_absent.Tie as tie
 
-abbrev invariant-loop : tie.invariant-loop
-invariant-loop tiles used operations count whose deletes₀ absent₀ i₀ deletes absent i =
+-- `chains::count_absent` meets its contract: the entries behind are counted, and each slot has the nearest delete among them
+abbrev invariant-loop-i : tie.invariant-loop-i
+invariant-loop-i tiles used operations count whose deletes₀ absent₀ i₀ deletes absent i =
     (i ≤ count) × (length deletes ≡ 16384) × (absent + i ≤ count) × Nearest is_delete operations count deletes i × (absent ≡ counted_in whose (take used tiles) (slice i count operations))
 
-abbrev decreases-loop : tie.decreases-loop
-decreases-loop tiles used operations count whose deletes₀ absent₀ i₀ deletes absent i = i
+abbrev decreases-loop-i : tie.decreases-loop-i
+decreases-loop-i tiles used operations count whose deletes₀ absent₀ i₀ deletes absent i = i
 
 -- before the nearest none deleted the tile of the entry that is looked at
-reaches : (c : tie.After-start-of invariant-loop decreases-loop) →
-    let s = c.before.before.before.before.before.before.before.before.before.before in
-    let l = c.before.before.before.before.before.before.before.loop in
-    Reaches is_delete (key_in (get_or s.args.operations.now (l.i - 1) 0)) s.args.operations.now s.args.count (l.i - 1 + 1) c.start_of_lem.result
+reaches : (c : tie.After-start_of invariant-loop-i decreases-loop-i) →
+    let l = c.loop-i in
+    Reaches is_delete (key_in (get_or c.args.operations.now (l.i - 1) 0)) c.args.operations.now c.args.count (l.i - 1 + 1) c.start_of.result
 reaches c =
-    let l = c.before.before.before.before.before.before.before.loop in
+    let l = c.loop-i in
     let back : l.i - 1 + 1 ≡ l.i = omega arith in
-    rw (back, c.start_of_lem.ensures, c.before.slot_of.ensures.0, c.before.before.key_in.ensures) (l.invariant.3 _)
+    rw (back, c.start_of.ensures, c.slot_of-s.ensures.0, c.key_in.ensures) (l.invariant.3 _)
 
-loop-holds : tie.Need-loop-init invariant-loop decreases-loop
-loop-holds c =
-    let s = c.before.before in
-    let l = s.args.operations.now in
-    let n = s.args.count in (
+loop-i-init : tie.Need-loop-i-init invariant-loop-i decreases-loop-i
+loop-i-init c =
+    let l = c.args.operations.now in
+    let n = c.args.count in (
       omega arith,
       length-replicate {0} {A = ℕ} 16384 0,
       omega arith,
       near_start is_delete l n,
-      ap (counted_in s.args.whose (take s.args.used s.args.tiles.now)) (sym (slice_end l n n (omega arith))),
+      ap (counted_in c.args.whose (take c.args.used c.args.tiles.now)) (sym (slice_end l n n (omega arith))),
     )
 
-sub-i : tie.Need-overflow-sub-i invariant-loop decreases-loop
-sub-i c = omega arith
+overflow_sub-i : tie.Need-overflow_sub-i invariant-loop-i decreases-loop-i
+overflow_sub-i c = omega arith
 
-mul-e : tie.Need-overflow-mul-e invariant-loop decreases-loop
-mul-e c = omega arith
+offset_bounds-operations-i : tie.Need-offset_bounds-operations-i invariant-loop-i decreases-loop-i
+offset_bounds-operations-i c = omega arith
 
-shared-slice-read-e : tie.Need-shared-slice-read-e invariant-loop decreases-loop
-shared-slice-read-e c = omega arith
+bounds-operations-i : tie.Need-bounds-operations-i invariant-loop-i decreases-loop-i
+bounds-operations-i c = omega arith
 
-kind-in-requires : tie.Need-kind-in-requires invariant-loop decreases-loop
-kind-in-requires c κs = search rules
+kind_in-requires : tie.Need-kind_in-requires invariant-loop-i decreases-loop-i
+kind_in-requires c κs = search rules
 
-loop-less : tie.Need-loop-smaller invariant-loop decreases-loop
-loop-less c = omega arith
+loop-i-smaller-then-kind_in-ne3 : tie.Need-loop-i-smaller-then-kind_in-ne3 invariant-loop-i decreases-loop-i
+loop-i-smaller-then-kind_in-ne3 c = omega arith
 
-loop-again : tie.Need-loop-preserved invariant-loop decreases-loop
-loop-again c =
-    let s = c.before.before.before.before.before.before.before in
-    let l = c.before.before.before.before.loop in
-    let o = s.args.operations.now in
-    let n = s.args.count in
-    let kind = ne_eqb _ 3 (λ q. c.if1.true (c.before.kind-in.ensures ∙ q)) in
+loop-i-preserved-then-kind_in-ne3 : tie.Need-loop-i-preserved-then-kind_in-ne3 invariant-loop-i decreases-loop-i
+loop-i-preserved-then-kind_in-ne3 c =
+    let l = c.loop-i in
+    let o = c.args.operations.now in
+    let n = c.args.count in
+    let kind = ne_eqb _ 3 (λ q. c.if-kind_in-ne3.true (c.kind_in.ensures ∙ q)) in
     let back : l.i - 1 + 1 ≡ l.i = omega arith in (
       omega arith,
       l.invariant.1,
       omega arith,
-      near_passed is_delete o n (l.i - 1) s.requires.1 (omega arith) l.deletes kind (rw back l.invariant.3),
-      counted_same o n (l.i - 1) s.requires.1 (omega arith) s.args.whose _ kind (rw back l.invariant.4),
+      near_passed is_delete o n (l.i - 1) c.requires.1 (omega arith) l.deletes kind (rw back l.invariant.3),
+      counted_same o n (l.i - 1) c.requires.1 (omega arith) c.args.whose _ kind (rw back l.invariant.4),
     )
 
-key-in-requires : tie.Need-key-in-requires invariant-loop decreases-loop
-key-in-requires c κs = search rules
+key_in-requires : tie.Need-key_in-requires invariant-loop-i decreases-loop-i
+key_in-requires c κs = search rules
 
-slot-of-requires : tie.Need-slot-of-requires invariant-loop decreases-loop
-slot-of-requires c κs = search rules
+slot_of-s-requires : tie.Need-slot_of-s-requires invariant-loop-i decreases-loop-i
+slot_of-s-requires c κs = search rules
 
-mul-start-of : tie.Need-overflow-mul-start-of invariant-loop decreases-loop
-mul-start-of c = omega arith
+offset_bounds-deletes-s : tie.Need-offset_bounds-deletes-s invariant-loop-i decreases-loop-i
+offset_bounds-deletes-s c = omega arith
 
-array-read-start-of : tie.Need-array-read-start-of invariant-loop decreases-loop
-array-read-start-of c = omega arith
+bounds-deletes-s : tie.Need-bounds-deletes-s invariant-loop-i decreases-loop-i
+bounds-deletes-s c = omega arith
 
-start-of-requires : tie.Need-start-of-requires invariant-loop decreases-loop
-start-of-requires c κs = search rules
+start_of-requires : tie.Need-start_of-requires invariant-loop-i decreases-loop-i
+start_of-requires c κs = search rules
 
-last-absent-requires : tie.Need-last-absent-requires invariant-loop decreases-loop
-last-absent-requires c κs =
-    let s = c.before.before.before.before.before.before.before.before.before.before in
-    (s.requires.0, (reaches c).high, s.requires.1)
+last_absent-absent-requires : tie.Need-last_absent-absent-requires invariant-loop-i decreases-loop-i
+last_absent-absent-requires c κs =
+    (c.requires.0, (reaches c).high, c.requires.1)
 
-add-absent : tie.Need-overflow-add-absent invariant-loop decreases-loop
-add-absent c = omega arith
+overflow_add-absent : tie.Need-overflow_add-absent invariant-loop-i decreases-loop-i
+overflow_add-absent c = omega arith
 
-add-deletes : tie.Need-overflow-add-deletes invariant-loop decreases-loop
-add-deletes c = omega arith
+overflow_add-deletes : tie.Need-overflow_add-deletes invariant-loop-i decreases-loop-i
+overflow_add-deletes c = omega arith
 
-cast-deletes : tie.Need-overflow-cast-deletes invariant-loop decreases-loop
-cast-deletes c = omega arith
+overflow_cast-deletes : tie.Need-overflow_cast-deletes invariant-loop-i decreases-loop-i
+overflow_cast-deletes c = omega arith
 
-mul-deletes : tie.Need-overflow-mul-deletes invariant-loop decreases-loop
-mul-deletes c = omega arith
+offset_bounds-deletes-s-in-loop-i : tie.Need-offset_bounds-deletes-s-in-loop-i invariant-loop-i decreases-loop-i
+offset_bounds-deletes-s-in-loop-i c = omega arith
 
-array-write-deletes : tie.Need-array-write-deletes invariant-loop decreases-loop
-array-write-deletes c = omega arith
+bounds-deletes-s-in-loop-i : tie.Need-bounds-deletes-s-in-loop-i invariant-loop-i decreases-loop-i
+bounds-deletes-s-in-loop-i c = omega arith
 
-loop-less-2 : tie.Need-loop-smaller-2 invariant-loop decreases-loop
-loop-less-2 c = omega arith
+loop-i-smaller : tie.Need-loop-i-smaller invariant-loop-i decreases-loop-i
+loop-i-smaller c = omega arith
 
-loop-again-2 : tie.Need-loop-preserved-2 invariant-loop decreases-loop
-loop-again-2 c =
-    let s = c.before.before.before.before.before.before.before.before.before.before.before in
-    let l = c.before.before.before.before.before.before.before.before.loop in
-    let o = s.args.operations.now in
-    let n = s.args.count in
-    let h = c.before.before.slot_of in
-    let key = c.before.before.before.key_in.ensures in
-    let kind = eq-eqb _ 3 (sym c.before.before.before.before.before.kind-in.ensures ∙ c.before.before.before.before.if1.false) in
+loop-i-preserved : tie.Need-loop-i-preserved invariant-loop-i decreases-loop-i
+loop-i-preserved c =
+    let l = c.loop-i in
+    let o = c.args.operations.now in
+    let n = c.args.count in
+    let h = c.slot_of-s in
+    let key = c.key_in.ensures in
+    let kind = eq-eqb _ 3 (sym c.kind_in.ensures ∙ c.if-kind_in-ne3.false) in
     let inside : h.result < length l.deletes = omega arith in
     let back : l.i - 1 + 1 ≡ l.i = omega arith in (
       omega arith,
       length-set l.deletes _ _ ∙ l.invariant.1,
       omega arith,
-      near_recorded is_delete o n (l.i - 1) s.requires.1 (omega arith) l.deletes h.result (h.ensures.0 ∙ ap near_slot key) inside (rw back l.invariant.3),
-      counted_more o n (l.i - 1) s.requires.1 (omega arith) s.args.whose _ c.before.start_of_lem.result kind (reaches c.before) c.last-absent.ensures.0 (rw back l.invariant.4),
+      near_recorded is_delete o n (l.i - 1) c.requires.1 (omega arith) l.deletes h.result (h.ensures.0 ∙ ap near_slot key) inside (rw back l.invariant.3),
+      counted_more o n (l.i - 1) c.requires.1 (omega arith) c.args.whose _ c.start_of.result kind (reaches c.before) c.last_absent-absent.ensures.0 (rw back l.invariant.4),
     )
 
-returns : tie.Need-returns invariant-loop decreases-loop
-returns c = let l = c.before.loop in let none : l.i ≡ 0 = omega arith in (rw none at l.invariant.4, omega arith)
+returns : tie.Need-returns invariant-loop-i decreases-loop-i
+returns c = let l = c.loop-i in let none : l.i ≡ 0 = omega arith in (rw none at l.invariant.4, omega arith)
 
 pub count_absent_spec : {M : Type 1} → statement M
 count_absent_spec =
     tie.close
     (tie.spec
-    invariant-loop
-    decreases-loop
-    loop-holds
-    sub-i
-    mul-e
-    shared-slice-read-e
-    kind-in-requires
-    loop-less
-    loop-again
-    key-in-requires
-    slot-of-requires
-    mul-start-of
-    array-read-start-of
-    start-of-requires
-    last-absent-requires
-    add-absent
-    add-deletes
-    cast-deletes
-    mul-deletes
-    array-write-deletes
-    loop-less-2
-    loop-again-2
+    invariant-loop-i
+    decreases-loop-i
+    loop-i-init
+    overflow_sub-i
+    offset_bounds-operations-i
+    bounds-operations-i
+    kind_in-requires
+    loop-i-smaller-then-kind_in-ne3
+    loop-i-preserved-then-kind_in-ne3
+    key_in-requires
+    slot_of-s-requires
+    offset_bounds-deletes-s
+    bounds-deletes-s
+    start_of-requires
+    last_absent-absent-requires
+    overflow_add-absent
+    overflow_add-deletes
+    overflow_cast-deletes
+    offset_bounds-deletes-s-in-loop-i
+    bounds-deletes-s-in-loop-i
+    loop-i-smaller
+    loop-i-preserved
     returns)
