@@ -39,31 +39,31 @@ held_by_lem c =
     ∙ ap (signed_at (used_operations (given c))) (sym (c.first_holder-holder.ensures ∙ of-kind))
 
 -- the holder's place is a used one
-place_there : (c : tie.In-At-2) → c.in-At.place < c.args.session.operations
+place_there : (c : tie.In-At) → c.in-At.place < c.args.session.operations
 place_there c =
-    let f = c.before.before in
+    let f = c.before in
     let inside = place_inside _ (used_operations (given f)) (sym f.first_holder-holder.ensures ∙ c.in-At.is) in
     omega (arith, inside, length-take-le (given f).session.operations (given f).operations f.requires.operations_fit)
 
 -- there is none
 free : (c : tie.In_default)
-    → let f = c.before.before in
+    → let f = c.before in
     let a = f.args in
     the_holder (length a.tiles.now) (length a.operations.now) (state (given f)) a.job a.procedure a.key ≡ none
-free c = let f = c.before.before in held_by_lem f ∙ ap (signed_at (used_operations (given f))) c.in_default.is
+free c = let f = c.before in held_by_lem f ∙ ap (signed_at (used_operations (given f))) c.in_default.is
 
 lacks : (c : tie.After-lacks_place)
-    → let w = given c.before.before.before in
+    → let w = given c.before.before in
     let a = c.args in
     lacks_place (length w.tiles) (length w.operations) (state w) a.job a.procedure a.key ≡ c.lacks_place.result
 lacks c =
-    let f = c.before.before.before in
+    let f = c.before.before in
     let w = given f in
     let a = c.args in
     rw (place_wanted a.job a.procedure a.key (used_tiles w) w.session.rule (state w).book.table, c.lacks_place.ensures, f.kind-kind.ensures, found f.before.before)
 
-slots : (c : tie.After-lacks_place) → let w = given c.before.before.before in length (map op_in (used_operations w)) ≡ w.session.operations
-slots c = let f = c.before.before.before in operations_count (given f) f.requires
+slots : (c : tie.After-lacks_place) → let w = given c.before.before in length (map op_in (used_operations w)) ≡ w.session.operations
+slots c = let f = c.before.before in operations_count (given f) f.requires
 
 find-spot-requires : tie.Need-find-spot-requires
 find-spot-requires c κs = tile_table _ c.requires
@@ -80,10 +80,10 @@ enum_known-holder : tie.Need-enum_known-holder
 enum_known-holder c = search rules
 
 offset_bounds-operations-place : tie.Need-offset_bounds-operations-place
-offset_bounds-operations-place c = omega (arith, place_there c.before, c.requires.operations_fit)
+offset_bounds-operations-place c = omega (arith, place_there c, c.requires.operations_fit)
 
 bounds-operations-place : tie.Need-bounds-operations-place
-bounds-operations-place c = omega (arith, place_there c.before.before, c.requires.operations_fit)
+bounds-operations-place c = omega (arith, place_there c.before, c.requires.operations_fit)
 
 job_in-requires : tie.Need-job_in-requires
 job_in-requires c κs = search rules
@@ -93,8 +93,8 @@ sheet_in-requires c κs = search rules
 
 returns-in-At : tie.Need-returns-in-At
 returns-in-At c =
-    let f = c.before.before.before.before.before.before in
-    let h = c.before.before.before.before in
+    let f = c.before.before.before.before in
+    let h = c.before.before.before in
     let a = f.args in
     held _ _ _ a.job a.procedure a.key (record { job = c.job_in.result; sheet = c.sheet_in.result })
     (held_by_lem f ∙ ap (signed_at (used_operations (given f))) h.in-At.is
