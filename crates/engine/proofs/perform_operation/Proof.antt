@@ -10,10 +10,10 @@ use Rattle.lists.specs.Truth.{never}
 use Rattle.strict.specs.Operations.{kind}
 use Rattle.strict.specs.Tiles.{member}
 use Rattle.tiles.specs.declared.Spot.{Spot}
-use Rattle.engine.proofs.perform_operation.Statement.{statement}
-use Rattle.engine.proofs.perform_operation.Tie as tie
 use Rattle.engine.specs.Counting.{Enters, entered}
 use Rattle.engine.specs.Forms.{affected_fits, may_enter, performed}
+use Rattle.engine.proofs.perform_operation.Statement.{statement}
+use Rattle.engine.proofs.perform_operation.Tie as tie
 
 -- what the function was given
 abbrev given : tie.Start → World
@@ -36,21 +36,28 @@ enter-requires c κs =
     let s = c.before.before.before.before.before.before.before in
     (subst (λ b. Enters s.args.session s.args.operations.now s.args.procedure s.args.spot.key b) (sym (found s)) (may_enter (given s) (full s) _ _ _ _ s.requires.0), never)
 
-same_length : tie.Need-same-length
-same_length c = search rules
+shape_of-tiles : tie.Need-shape_of-tiles
+shape_of-tiles c = search rules
 
-same-length-2 : tie.Need-same-length-2
-same-length-2 c = search rules
+shape_of-operations : tie.Need-shape_of-operations
+shape_of-operations c = search rules
 
 returns : tie.Need-returns
 returns c =
     let s = c.before.before.before.before.before.before.before.before.before.before in
     let a = s.args in
-    let entry = c.before.before.enter.ensures in
+    let entry = c.enter.ensures in
     performed (given s) (full s) a.job a.sheet a.procedure a.spot.key s.requires.0 _ _ _
     (entry.0 ∙ ap (entered a.session a.operations.now a.procedure a.spot.key) (found s))
-    c.before.before.before.before.before.before.affect.ensures.1
+    c.affect.ensures.1
     (entry.1 ∙ ap (λ b. set a.operations.now a.session.operations (pack_entry a.sheet (kind a.procedure b) a.job a.spot.key)) (found s))
 
 pub perform_operation_spec : {M : Type 1} → statement M
-perform_operation_spec = tie.close (tie.spec affect-requires enter-requires same_length same-length-2 returns)
+perform_operation_spec =
+    tie.close
+    (tie.spec
+    affect-requires
+    enter-requires
+    shape_of-tiles
+    shape_of-operations
+    returns)
