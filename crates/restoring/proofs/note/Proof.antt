@@ -10,56 +10,52 @@ use Rattle.restoring.proofs.note.Statement.{statement}
 use Rattle.restoring.proofs.note.Tie as tie
 
 -- whether the key is among the tiles, as the search says
-found : (c : tie.After-find) → c.find.result.there ≡ member c.before.before.before.before.args.key (take c.before.before.before.before.args.count c.before.before.before.before.args.tiles.now)
-found c = ap (λ (x : Spot). x.there) c.find.ensures
+found : (c : tie.After-find-spot) → c.find-spot.result.there ≡ member c.args.key (take c.args.count c.args.tiles.now)
+found c = ap (λ (x : Spot). x.there) c.find-spot.ensures
 
-find-requires : tie.Need-find-requires
-find-requires c κs = search rules
+find-spot-requires : tie.Need-find-spot-requires
+find-spot-requires c κs = search rules
 
-note-present-requires : tie.Need-note-present-requires
-note-present-requires c κs =
+note_present-requires : tie.Need-note_present-requires
+note_present-requires c κs =
     let f = c.before.before in
-    let s = f.before.before.before.before in
-    let here = sym (found f) ∙ c.before.if1.true in
-    rw f.find.ensures (at_mark s.requires.0.noted s.args.key s.requires.1 here, present_movable s.requires.0.noted s.args.key s.requires.1 here s.requires.0.few)
+    let here = sym (found f) ∙ c.if-spot.true in
+    rw f.find-spot.ensures (at_mark f.requires.0.noted f.args.key f.requires.1 here, present_movable f.requires.0.noted f.args.key f.requires.1 here f.requires.0.few)
 
-same_length : tie.Need-same-length
-same_length c = search rules
+shape_of-marks-then-spot : tie.Need-shape_of-marks-then-spot
+shape_of-marks-then-spot c = search rules
+
+returns-then-spot : tie.Need-returns-then-spot
+returns-then-spot c =
+    let f = c.before.before.before.before.before in
+    let here = sym (found f) ∙ c.if-spot.true in
+    let done = rw f.find-spot.ensures at c.note_present.ensures in
+    let same = done.1 in
+    (noted_present f.requires.0.noted f.args.key f.requires.1 here f.args.procedure _ _ done, omega arith)
+
+note_absent-requires : tie.Need-note_absent-requires
+note_absent-requires c κs =
+    let f = c.before.before in
+    let gone = sym (found f) ∙ c.if-spot.false in
+    (f.requires.0.noted.awaited, f.requires.0.room, absent_movable f.requires.0.noted f.args.key f.requires.1 gone f.requires.0.few)
+
+shape_of-back : tie.Need-shape_of-back
+shape_of-back c = search rules
 
 returns : tie.Need-returns
 returns c =
     let f = c.before.before.before.before.before in
-    let s = f.before.before.before.before in
-    let here = sym (found f) ∙ c.before.before.before.before.if1.true in
-    let done = rw f.find.ensures at c.before.before.note-present.ensures in
-    let same = done.1 in
-    (noted_present s.requires.0.noted s.args.key s.requires.1 here s.args.procedure _ _ done, omega arith)
-
-note-absent-requires : tie.Need-note-absent-requires
-note-absent-requires c κs =
-    let f = c.before.before in
-    let s = f.before.before.before.before in
-    let gone = sym (found f) ∙ c.before.if1.false in
-    (s.requires.0.noted.awaited, s.requires.0.room, absent_movable s.requires.0.noted s.args.key s.requires.1 gone s.requires.0.few)
-
-same-length-2 : tie.Need-same-length-2
-same-length-2 c = search rules
-
-returns-2 : tie.Need-returns-2
-returns-2 c =
-    let f = c.before.before.before.before.before in
-    let s = f.before.before.before.before in
-    let gone = sym (found f) ∙ c.before.before.before.before.if1.false in
-    noted_absent s.requires.0.noted s.args.key s.requires.1 gone s.args.procedure _ _ s.requires.0.room c.before.before.note-absent.ensures
+    let gone = sym (found f) ∙ c.if-spot.false in
+    noted_absent f.requires.0.noted f.args.key f.requires.1 gone f.args.procedure _ _ f.requires.0.room c.note_absent.ensures
 
 pub note_spec : {M : Type 1} → statement M
 note_spec =
     tie.close
     (tie.spec
-    find-requires
-    note-present-requires
-    same_length
-    returns
-    note-absent-requires
-    same-length-2
-    returns-2)
+    find-spot-requires
+    note_present-requires
+    shape_of-marks-then-spot
+    returns-then-spot
+    note_absent-requires
+    shape_of-back
+    returns)
