@@ -22,6 +22,13 @@ module _ (e : ℕ) (t : List ℕ) where
   pub recovered_three : kind_in e ≡ 3 → recovered e t ≡ insert_tile (key_in e) t
   recovered_three h = rw h
 
+  -- the same by a number that was read as the entry's key
+  pub recovered_delete : {k : ℕ} → kind_in e ≡ 1 → k ≡ key_in e → recovered e t ≡ delete k t
+  recovered_delete one own = recovered_one one ∙ ap (λ k. delete k t) (sym own)
+
+  pub recovered_insert : {k : ℕ} → kind_in e ≡ 3 → k ≡ key_in e → recovered e t ≡ insert_tile k t
+  recovered_insert three own = recovered_three three ∙ ap (λ k. insert_tile k t) (sym own)
+
   pub recovered_other : kind_in e ≢ 1 → kind_in e ≢ 3 → recovered e t ≡ t
   recovered_other a b = rw (ne_eqb (kind_in e) 1 a, ne_eqb (kind_in e) 3 b)
 

@@ -16,10 +16,10 @@ use Rattle.service.specs.World.{World, used_operations, world}
 use Rattle.engine.specs.Counting.{tally_in}
 use Rattle.restoring.specs.Recovery.{Undoable}
 use Rattle.closing.proofs.Laws.{tallied}
-use Rattle.closing.proofs.abort_job.Statement.{statement}
-use Rattle.closing.proofs.abort_job.Tie as tie
 use Rattle.closing.specs.Ending.{closed}
 use Rattle.closing.specs.Forms.{aborted}
+use Rattle.closing.proofs.abort_job.Statement.{statement}
+use Rattle.closing.proofs.abort_job.Tie as tie
 
 -- what the function was given
 abbrev given : tie.Start → World
@@ -40,53 +40,53 @@ undoable w o =
     valid_keys marks [] h = tt
     valid_keys marks (e ∷ es) h = (h.0.key_valid, valid_keys marks es h.1)
 
-spoken-without-requires : tie.Need-spoken-without-requires
-spoken-without-requires c κs = c.before.before.before.before.requires.tabled
+spoken_without-spoken-requires : tie.Need-spoken_without-spoken-requires
+spoken_without-spoken-requires c κs = c.requires.tabled
 
-tally-of-requires : tie.Need-tally-of-requires
-tally-of-requires c κs = search rules
+tally_of-requires : tie.Need-tally_of-requires
+tally_of-requires c κs = search rules
 
-undo-requires : tie.Need-undo-requires
-undo-requires c κs =
-    let s = c.before.before.before.before.before.before.before.before in
+undo-left-requires : tie.Need-undo-left-requires
+undo-left-requires c κs =
+    let s = c.before.before.before.before.before in
     let o = s.requires.tabled in
-    rw c.before.tally-of.ensures (undoable (given s) o)
+    rw c.tally_of.ensures (undoable (given s) o)
 
-clear-job-requires : tie.Need-clear-job-requires
-clear-job-requires c κs =
-    let s = c.before.before.before.before.before.before.before.before.before.before.before.before in
+clear_job-next-requires : tie.Need-clear_job-next-requires
+clear_job-next-requires c κs =
+    let s = c.before.before.before.before.before.before.before.before.before in
     (entry_table (given s) s.requires.tabled, s.requires.named)
 
 counting-requires : tie.Need-counting-requires
 counting-requires c κs = search rules
 
-same_length : tie.Need-same-length
-same_length c = search rules
+shape_of-tiles : tie.Need-shape_of-tiles
+shape_of-tiles c = search rules
 
-same-length-2 : tie.Need-same-length-2
-same-length-2 c = search rules
+shape_of-operations : tie.Need-shape_of-operations
+shape_of-operations c = search rules
 
 returns : tie.Need-returns
 returns c =
     let u = c.before.before.before.before.before.before.before in
-    let s = u.before.before.before.before.before.before.before.before.before in
+    let s = u.before.before.before.before.before.before in
     let a = s.args in
-    let undone = rw u.before.before.tally-of.ensures at u.undo.ensures in
-    let cleared = c.before.before.before.clear-job.ensures in
+    let undone = rw u.tally_of.ensures at u.undo-left.ensures in
+    let cleared = c.clear_job-next.ensures in
     rw c.counting.ensures
     (aborted (given s) s.requires.tabled a.job _ _ _ _ undone.0 undone.1
-    (cleared.0 ∙ ap (closed a.session a.job (length (without_job a.job (take a.session.operations a.operations.now)))) u.before.before.before.before.spoken-without.ensures)
+    (cleared.0 ∙ ap (closed a.session a.job (length (without_job a.job (take a.session.operations a.operations.now)))) u.spoken_without-spoken.ensures)
     cleared.1)
 
 pub abort_job_spec : {M : Type 1} → statement M
 abort_job_spec =
     tie.close
     (tie.spec
-    spoken-without-requires
-    tally-of-requires
-    undo-requires
-    clear-job-requires
+    spoken_without-spoken-requires
+    tally_of-requires
+    undo-left-requires
+    clear_job-next-requires
     counting-requires
-    same_length
-    same-length-2
+    shape_of-tiles
+    shape_of-operations
     returns)
