@@ -17,7 +17,7 @@ given c =
     let a = c.args in
     world a.session a.tiles.now a.operations.now a.journal.now
 
-record Known (c : tie.After-struct-known) : Type 0 where
+record Known (c : tie.After-struct_known-1) : Type 0 where
   taken : places_taken (given c).session.rule (state (given c)).book ≡ (given c).session.tiles + (given c).session.spoken
   used : length (state (given c)).book.table ≡ (given c).session.operations
   room : (given c).session.tiles + (given c).session.spoken ≤ length (given c).tiles

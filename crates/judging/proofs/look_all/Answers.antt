@@ -3,7 +3,6 @@ use mathlib.Core.Path.{◌≡◌}
 use Prim.Native.Nat.{◌+◌, ◌-◌}
 use native.Mathlib.Omega.{arith}
 use lib.ListN.{take}
-use borrow.Author.Rules.{rules}
 use Rattle.lists.specs.Truth.{one_if}
 use Rattle.judging.specs.Laws.{left_held, left_more, left_over, left_start, one_more, seen_so}
 use Rattle.judging.proofs.look_all.Goals as goal
@@ -24,12 +23,12 @@ returns-in-Held c =
 pub loop-i-preserved : goal.loop-i-preserved
 loop-i-preserved c =
     let l = c.loop-i in
-    let rules = c.in-Free.needs in
+    let needs = c.in-Free.needs in
     let more : c.more-need.result ≡ l.need + one_if needs = c.more-need.ensures in
-    let small = one_more rules in (
+    let small = one_more needs in (
       omega arith,
       omega arith,
-      left_more c.args.keys.now c.args.n l.i l.invariant.2 c.requires.1 (omega arith) rules _
+      left_more c.args.keys.now c.args.n l.i l.invariant.2 c.requires.1 (omega arith) needs _
           (seen_so _ _ _ _ _ _ _ c.look_past.ensures c.in-Free.is) more,
     )
 

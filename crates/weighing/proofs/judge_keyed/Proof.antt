@@ -58,7 +58,7 @@ returns-then-journal-used : tie.Need-returns-then-journal-used
 returns-then-journal-used c =
     let seen = c.before.before.before in
     let s = seen.before.before.before.before in
-    judges_no_bytes (given s) s.args.job s.args.procedure s.args.key s.args.turns _ (meaning seen _ seen.in-Admitted.is)
+    judges_no_bytes (given s) s.args.job s.args.procedure s.args.key s.args.turns _ (meaning seen _ c.in-Admitted.is)
     (lt-ltb _ (operation_size + short_size * open_marks s.args.session.marks) (rw (sym c.open_jobs.ensures.0) c.if-journal-used.true))
 
 returns-in-Held : tie.Need-returns-in-Held
@@ -80,7 +80,7 @@ returns-else-journal-used : tie.Need-returns-else-journal-used
 returns-else-journal-used c =
     let seen = c.before.before.before in
     let s = seen.before.before.before.before in
-    judges_perform (given s) s.args.job s.args.procedure s.args.key s.args.turns _ _ (meaning seen _ seen.in-Admitted.is)
+    judges_perform (given s) s.args.job s.args.procedure s.args.key s.args.turns _ _ (meaning seen _ c.in-Admitted.is)
     (le-ltb _ (operation_size + short_size * open_marks s.args.session.marks) (rw (sym c.open_jobs.ensures.0) c.if-journal-used.false)) (to_z-of_z s.ranges.turns)
 
 pub judge_keyed_spec : {M : Type 1} → statement M

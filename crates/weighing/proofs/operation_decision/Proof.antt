@@ -73,8 +73,8 @@ returns-in-Key c =
     let s = e.before.before.before.before.before.before in
     let gate = e.end_reply-gate in
     decides_judged (given s) s.args.job s.args.procedure s.args.address gate.result gate.ensures (zero e) _ _ c.judge_keyed.result
-    (ap placed (sym key.in-Key.is) ∙ key.locate.ensures)
-    (rw (field_read key.in-Key.turns c.known_told-1.given.1.0.1) at c.judge_keyed.ensures)
+    (ap placed (sym c.in-Key.is) ∙ c.locate.ensures)
+    (rw (field_read c.in-Key.turns c.in-Key.known_told-1-own.given.1.0.1) at c.judge_keyed.ensures)
 
 pub operation_decision_spec : {M : Type 1} → statement M
 operation_decision_spec =
