@@ -9,32 +9,40 @@ use Rattle.lists.specs.Truth.{test_fails, test_passes}
 use Rattle.service.specs.Sound.{sound_B}
 use Rattle.service.specs.Told.{done}
 use Rattle.service.specs.World.{world}
-use Rattle.decisions.proofs.end_reply.Statement.{statement}
 use Rattle.decisions.specs.Laws.{end_closed, end_done, end_no_job, end_unsound}
+use Rattle.std.proofs.Common.{◌∙◌, sym}
+use Rattle.decisions.proofs.end_reply.Statement.{statement}
 use Rattle.decisions.proofs.end_reply.Tie as tie
 
 -- behind the first test the tables are sound
-passed : (c : tie.Else1) → let a = c.before.before.before.before.before.args in sound_B (world a.t1 a.tiles.now a.operations.now a.journal.now) ≡ true
-passed c = test_passes c.before.sound.ensures c.if1.false
+passed : (c : tie.Else-not-sound) → let a = c.args in sound_B (world a.session a.tiles.now a.operations.now a.journal.now) ≡ true
+passed c = sym c.sound.ensures ∙ c.if-not-sound.false
 
 sound-requires : tie.Need-sound-requires
 sound-requires c κs = search rules
 
+returns-then-not-sound : tie.Need-returns-then-not-sound
+returns-then-not-sound c = end_unsound _ c.args.job (done false (pos 0)) (sym c.sound.ensures ∙ c.if-not-sound.true)
+
+returns-then-job-gt-LAST_JOB : tie.Need-returns-then-job-gt-LAST_JOB
+returns-then-job-gt-LAST_JOB c = end_no_job _ _ _ (passed c.before) c.if-job-gt-LAST_JOB.true
+
+bounds-session-place : tie.Need-bounds-session-place
+bounds-session-place c = search rules
+
+returns-then-not-session-place : tie.Need-returns-then-not-session-place
+returns-then-not-session-place c = end_closed _ _ _ (passed c.before.before.before) (omega arith) c.if-not-session-place.true
+
 returns : tie.Need-returns
-returns c = end_unsound _ c.before.before.before.before.before.args.job (done false (pos 0)) (test_fails c.before.sound.ensures c.if1.true)
-
-returns-2 : tie.Need-returns-2
-returns-2 c = end_no_job _ _ _ (passed c.before) c.if2.true
-
-element-copy-out-if3 : tie.Need-element-copy-out-if3
-element-copy-out-if3 c = search rules
-
-returns-3 : tie.Need-returns-3
-returns-3 c = end_closed _ _ _ (passed c.before.before.before) (omega arith) (not-true _ c.if3.true)
-
-returns-4 : tie.Need-returns-4
-returns-4 c = end_done _ _ _ (passed c.before.before.before) (omega arith) (not-false _ c.if3.false)
+returns c = end_done _ _ _ (passed c.before.before.before) (omega arith) c.if-not-session-place.false
 
 pub end_reply_spec : {M : Type 1} → statement M
 end_reply_spec =
-    tie.close (tie.spec sound-requires returns returns-2 element-copy-out-if3 returns-3 returns-4)
+    tie.close
+    (tie.spec
+    sound-requires
+    returns-then-not-sound
+    returns-then-job-gt-LAST_JOB
+    bounds-session-place
+    returns-then-not-session-place
+    returns)

@@ -22,7 +22,7 @@ given c = world c.args.session c.args.tiles.now c.args.operations.now c.args.jou
 
 -- what the engine's verdict says of it
 meaning : (c : tie.After-admit) (u : Verdict) → c.admit.result ≡ u
-    → Meaning (given c.before.before.before.before) c.before.before.before.before.args.job c.before.before.before.before.args.procedure c.before.before.before.before.args.key u
+    → Meaning (given c.before.before.before.before) c.args.job c.args.procedure c.args.key u
 meaning c u seen = verdict_seen _ _ _ _ _ _ _ u c.admit.ensures seen
 
 admit-requires : tie.Need-admit-requires
@@ -30,74 +30,74 @@ admit-requires c κs =
     let s = c.before.before.before in
     retabled (given s) s.args.session.journal [] s.requires.tables
 
-enum-known-by : tie.Need-enum-known-by
-enum-known-by c = search rules
+enum_known-by : tie.Need-enum_known-by
+enum_known-by c = search rules
 
-enum_told : tie.Need-enum-told
-enum_told c = search rules
+enum_told-1 : tie.Need-enum_told-1
+enum_told-1 c = search rules
 
-enum-told-2 : tie.Need-enum-told-2
-enum-told-2 c = search rules
+enum_told-in-NoOperationRoom : tie.Need-enum_told-in-NoOperationRoom
+enum_told-in-NoOperationRoom c = search rules
 
-enum-known-spot : tie.Need-enum-known-spot
-enum-known-spot c = search rules
+enum_known-spot : tie.Need-enum_known-spot
+enum_known-spot c = search rules
 
-sub-if1 : tie.Need-overflow-sub-if1
-sub-if1 c = c.before.before.before.before.before.before.before.requires.journal_fits
+overflow_sub-journal : tie.Need-overflow_sub-journal
+overflow_sub-journal c = c.requires.journal_fits
 
-open-jobs-requires : tie.Need-open-jobs-requires
-open-jobs-requires c κs = search rules
+open_jobs-requires : tie.Need-open_jobs-requires
+open_jobs-requires c κs = search rules
 
-mul-if1 : tie.Need-overflow-mul-if1
-mul-if1 c = search rules
+overflow_mul-open_jobs : tie.Need-overflow_mul-open_jobs
+overflow_mul-open_jobs c = search rules
 
-add-if1 : tie.Need-overflow-add-if1
-add-if1 c = search rules
+overflow_add-open_jobs : tie.Need-overflow_add-open_jobs
+overflow_add-open_jobs c = search rules
 
-returns : tie.Need-returns
-returns c =
+returns-then-journal-used : tie.Need-returns-then-journal-used
+returns-then-journal-used c =
     let seen = c.before.before.before in
-    let s = seen.before.before.before.before.before.before in
-    judges_no_bytes (given s) s.args.job s.args.procedure s.args.key s.args.turns _ (meaning seen.before.before _ seen.spot.given.1)
-    (lt-ltb _ (operation_size + short_size * open_marks s.args.session.marks) (rw (sym c.before.open_jobs_lem.ensures.0) c.if1.true))
+    let s = seen.before.before.before.before in
+    judges_no_bytes (given s) s.args.job s.args.procedure s.args.key s.args.turns _ (meaning seen _ c.in-Admitted.is)
+    (lt-ltb _ (operation_size + short_size * open_marks s.args.session.marks) (rw (sym c.open_jobs.ensures.0) c.if-journal-used.true))
 
-returns-2 : tie.Need-returns-2
-returns-2 c =
-    let s = c.before.before.before.before.before.before.before in
-    judges_held (given s) s.args.job s.args.procedure s.args.key s.args.turns _ _ (meaning c.before.before.before _ c.before.by.given.1)
+returns-in-Held : tie.Need-returns-in-Held
+returns-in-Held c =
+    let s = c.before.before.before.before.before in
+    judges_held (given s) s.args.job s.args.procedure s.args.key s.args.turns _ _ (meaning c.before _ c.in-Held.is)
 
-returns-3 : tie.Need-returns-3
-returns-3 c =
-    let s = c.before.before.before.before.before.before in
-    judges_no_place (given s) s.args.job s.args.procedure s.args.key s.args.turns (meaning c.before.before NoTileRoom c.enum_told.given.1)
+returns-in-NoTileRoom : tie.Need-returns-in-NoTileRoom
+returns-in-NoTileRoom c =
+    let s = c.before.before.before.before.before in
+    judges_no_place (given s) s.args.job s.args.procedure s.args.key s.args.turns (meaning c.before NoTileRoom c.in-NoTileRoom.is)
 
-returns-4 : tie.Need-returns-4
-returns-4 c =
-    let s = c.before.before.before.before.before.before in
-    judges_no_slot (given s) s.args.job s.args.procedure s.args.key s.args.turns (meaning c.before.before NoOperationRoom c.enum-told2.given.1)
+returns-in-NoOperationRoom : tie.Need-returns-in-NoOperationRoom
+returns-in-NoOperationRoom c =
+    let s = c.before.before.before.before.before in
+    judges_no_slot (given s) s.args.job s.args.procedure s.args.key s.args.turns (meaning c.before NoOperationRoom c.in-NoOperationRoom.is)
 
-returns-5 : tie.Need-returns-5
-returns-5 c =
+returns-else-journal-used : tie.Need-returns-else-journal-used
+returns-else-journal-used c =
     let seen = c.before.before.before in
-    let s = seen.before.before.before.before.before.before in
-    judges_perform (given s) s.args.job s.args.procedure s.args.key s.args.turns _ _ (meaning seen.before.before _ seen.spot.given.1)
-    (le-ltb _ (operation_size + short_size * open_marks s.args.session.marks) (rw (sym c.before.open_jobs_lem.ensures.0) c.if1.false)) (to_z-of_z s.ranges.turns)
+    let s = seen.before.before.before.before in
+    judges_perform (given s) s.args.job s.args.procedure s.args.key s.args.turns _ _ (meaning seen _ c.in-Admitted.is)
+    (le-ltb _ (operation_size + short_size * open_marks s.args.session.marks) (rw (sym c.open_jobs.ensures.0) c.if-journal-used.false)) (to_z-of_z s.ranges.turns)
 
 pub judge_keyed_spec : {M : Type 1} → statement M
 judge_keyed_spec =
     tie.close
     (tie.spec
     admit-requires
-    enum-known-by
-    enum_told
-    enum-told-2
-    enum-known-spot
-    sub-if1
-    open-jobs-requires
-    mul-if1
-    add-if1
-    returns
-    returns-2
-    returns-3
-    returns-4
-    returns-5)
+    enum_known-by
+    enum_told-1
+    enum_told-in-NoOperationRoom
+    enum_known-spot
+    overflow_sub-journal
+    open_jobs-requires
+    overflow_mul-open_jobs
+    overflow_add-open_jobs
+    returns-then-journal-used
+    returns-in-Held
+    returns-in-NoTileRoom
+    returns-in-NoOperationRoom
+    returns-else-journal-used)

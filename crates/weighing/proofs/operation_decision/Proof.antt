@@ -8,8 +8,8 @@ use Rattle.grid.specs.Tile.{placed}
 use Rattle.service.specs.Told.{told}
 use Rattle.service.specs.World.{World, world}
 use Rattle.address.proofs.Signed.{field_read}
-use Rattle.weighing.proofs.operation_decision.Statement.{statement}
 use Rattle.weighing.specs.Laws.{decides_gate, decides_judged, decides_no_edition, decides_no_key, passed_sound}
+use Rattle.weighing.proofs.operation_decision.Statement.{statement}
 use Rattle.weighing.proofs.operation_decision.Tie as tie
 
 -- what the function was given
@@ -17,77 +17,77 @@ abbrev given : tie.Start → World
 given c = world c.args.session c.args.tiles.now c.args.operations.now c.args.journal.now
 
 -- where the gate is open
-zero : (c : tie.Else1) → eqb (told c.before.before.end-reply.result).number 0 ≡ true
-zero c = test_passes c.before.accepted.ensures c.if1.false
+zero : (c : tie.Else-not-accepted) → eqb (told c.end_reply-gate.result).number 0 ≡ true
+zero c = sym c.accepted.ensures ∙ c.if-not-accepted.false
 
-end-reply-requires : tie.Need-end-reply-requires
-end-reply-requires c κs = search rules
+end_reply-gate-requires : tie.Need-end_reply-gate-requires
+end_reply-gate-requires c κs = search rules
 
 accepted-requires : tie.Need-accepted-requires
 accepted-requires c κs = search rules
 
-returns : tie.Need-returns
-returns c =
+returns-then-not-accepted : tie.Need-returns-then-not-accepted
+returns-then-not-accepted c =
     let s = c.before.before.before.before.before.before in
-    decides_gate (given s) s.args.job s.args.procedure s.args.address c.before.before.end-reply.result c.before.before.end-reply.ensures (test_fails c.before.accepted.ensures c.if1.true)
+    decides_gate (given s) s.args.job s.args.procedure s.args.address c.end_reply-gate.result c.end_reply-gate.ensures (sym c.accepted.ensures ∙ c.if-not-accepted.true)
 
 locate-requires : tie.Need-locate-requires
 locate-requires c κs = search rules
 
-enum_told : tie.Need-enum-told
-enum_told c = search rules
+enum_told-1 : tie.Need-enum_told-1
+enum_told-1 c = search rules
 
-enum-told-2 : tie.Need-enum-told-2
-enum-told-2 c = search rules
+enum_told-in-Refused : tie.Need-enum_told-in-Refused
+enum_told-in-Refused c = search rules
 
-enum-known-key : tie.Need-enum-known-key
-enum-known-key c = search rules
+enum_known-key : tie.Need-enum_known-key
+enum_known-key c = search rules
 
-judge-keyed-requires : tie.Need-judge-keyed-requires
-judge-keyed-requires c κs =
-    let e = c.before.before.before.before in
+judge_keyed-requires : tie.Need-judge_keyed-requires
+judge_keyed-requires c κs =
+    let e = c.before.before in
     let s = e.before.before.before.before.before.before in
-    let gate = e.before.before.end-reply in
+    let gate = e.end_reply-gate in
     passed_sound (given s) s.args.job s.args.procedure s.args.address gate.result gate.ensures (zero e)
 
-returns-2 : tie.Need-returns-2
-returns-2 c =
-    let e = c.before.before.before in
+returns-in-NoEdition : tie.Need-returns-in-NoEdition
+returns-in-NoEdition c =
+    let e = c.before.before in
     let s = e.before.before.before.before.before.before in
-    let gate = e.before.before.end-reply in
+    let gate = e.end_reply-gate in
     decides_no_edition (given s) s.args.job s.args.procedure s.args.address gate.result gate.ensures (zero e)
-    (ap placed (sym c.enum_told.given.1) ∙ c.before.before.locate.ensures)
+    (ap placed (sym c.in-NoEdition.is) ∙ c.locate.ensures)
 
-returns-3 : tie.Need-returns-3
-returns-3 c =
-    let e = c.before.before.before in
+returns-in-Refused : tie.Need-returns-in-Refused
+returns-in-Refused c =
+    let e = c.before.before in
     let s = e.before.before.before.before.before.before in
-    let gate = e.before.before.end-reply in
+    let gate = e.end_reply-gate in
     decides_no_key (given s) s.args.job s.args.procedure s.args.address gate.result gate.ensures (zero e)
-    (ap placed (sym c.enum-told2.given.1) ∙ c.before.before.locate.ensures)
+    (ap placed (sym c.in-Refused.is) ∙ c.locate.ensures)
 
-returns-4 : tie.Need-returns-4
-returns-4 c =
+returns-in-Key : tie.Need-returns-in-Key
+returns-in-Key c =
     let key = c.before.before in
-    let e = key.before.before.before in
+    let e = key.before in
     let s = e.before.before.before.before.before.before in
-    let gate = e.before.before.end-reply in
-    decides_judged (given s) s.args.job s.args.procedure s.args.address gate.result gate.ensures (zero e) _ _ c.judge-keyed.result
-    (ap placed (sym key.key.given.1) ∙ key.before.before.locate.ensures)
-    (rw (field_read key.key.given.0.1.0 c.before.known-told.given.1.0.1) at c.judge-keyed.ensures)
+    let gate = e.end_reply-gate in
+    decides_judged (given s) s.args.job s.args.procedure s.args.address gate.result gate.ensures (zero e) _ _ c.judge_keyed.result
+    (ap placed (sym c.in-Key.is) ∙ c.locate.ensures)
+    (rw (field_read c.in-Key.turns c.in-Key.known_told-1-own.given.1.0.1) at c.judge_keyed.ensures)
 
 pub operation_decision_spec : {M : Type 1} → statement M
 operation_decision_spec =
     tie.close
     (tie.spec
-    end-reply-requires
+    end_reply-gate-requires
     accepted-requires
-    returns
+    returns-then-not-accepted
     locate-requires
-    enum_told
-    enum-told-2
-    enum-known-key
-    judge-keyed-requires
-    returns-2
-    returns-3
-    returns-4)
+    enum_told-1
+    enum_told-in-Refused
+    enum_known-key
+    judge_keyed-requires
+    returns-in-NoEdition
+    returns-in-Refused
+    returns-in-Key)
