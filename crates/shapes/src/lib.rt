@@ -1,4 +1,6 @@
 // The shape of a rectangle, and the list of its keys. Nothing of a session is looked at here.
+#![tactic(auto)]
+
 ghost use Rattle.std.specs.Prelude.{◌≡◌, ◌-◌, ◌<◌, ◌^◌, ◌≤◌, suc, length, take};
 ghost use Rattle.std.specs.Int.Signed.{mag};
 ghost use Rattle.grid.specs.Tile.{address_call, address_of, placed, row_in};
