@@ -65,7 +65,7 @@ module _ {job sheet : ℕ} {p : Procedure} {w₀ : World} {ks₀ : List ℕ} whe
   -- and the second behind it
   ahead_along : (w : World) (xs ys : List ℕ) → Ahead job sheet p w₀ ks₀ w (xs ++ ys) → Ahead job sheet p w₀ ks₀ (carried_all w job sheet p xs) ys
   ahead_along w [] ys a = a
-  ahead_along w (x ∷ xs) ys a = ahead_along _ xs ys (ahead_more x (xs ++ ys) a)
+  ahead_along w (x ∷ xs) ys a = ahead_along (carried w (operation job sheet p x)) xs ys (ahead_more x (xs ++ ys) a)
 
 -- A RUN: of the first n of l, those from i to e and those behind
 front_drop : (m i n : ℕ) (l : List ℕ) → i + m ≤ n → take m (drop i (take n l)) ≡ take m (drop i l)
