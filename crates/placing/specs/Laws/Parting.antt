@@ -9,6 +9,8 @@ use Rattle.strict.specs.declared.Procedure.{Procedure}
 use Rattle.strict.specs.declared.Rule.{Rule}
 use Rattle.grid.specs.Tile.{is_key}
 use Rattle.service.specs.World.{World, state, world}
+use Rattle.service.specs.Calls.{carried}
+use Rattle.strict.specs.Histories.{operation}
 use Rattle.service.specs.declared.Session.{Session}
 use Rattle.rectangles.specs.Claims.{Apart}
 use Rattle.rectangles.specs.Fitting.{Ahead, Fits}
