@@ -11,67 +11,67 @@ use Rattle.operating.proofs.operation.Tie as tie
 abbrev given : tie.Start → World
 given c = world c.args.session c.args.tiles.now c.args.operations.now c.args.journal.now
 
-operation-decision-requires : tie.Need-operation-decision-requires
-operation-decision-requires c κs = search rules
+operation_decision-requires : tie.Need-operation_decision-requires
+operation_decision-requires c κs = search rules
 
-enum-known-reply : tie.Need-enum-known-reply
-enum-known-reply c = search rules
+enum_known-reply : tie.Need-enum_known-reply
+enum_known-reply c = search rules
 
-enum-known-spot : tie.Need-enum-known-spot
-enum-known-spot c = search rules
+enum_known-spot : tie.Need-enum_known-spot
+enum_known-spot c = search rules
 
-carry-out-requires : tie.Need-carry-out-requires
-carry-out-requires c κs =
-    let s = c.before.before.before.before.before.before.before.before.before.before.before.before.before in
-    let decides = c.before.before.before.before.before.before.operation-decision.ensures in
-    let is = c.before.before.before.before.spot.given.1 in
-    (passes_decided (given s) s.args.job s.args.sheet s.args.procedure s.args.address _ decides _ _ is, spot_decided (given s) s.args.job s.args.sheet s.args.procedure s.args.address _ decides _ _ is)
+carry_out-requires : tie.Need-carry_out-requires
+carry_out-requires c κs =
+    let s = c.before.before.before.before.before.before.before.before in
+    let decides = c.operation_decision.ensures in
+    let is = c.in-Perform.is in
+    (passes_decided (given s) c.args.job c.args.sheet c.args.procedure c.args.address _ decides _ _ is, spot_decided (given s) c.args.job c.args.sheet c.args.procedure c.args.address _ decides _ _ is)
 
-same_length : tie.Need-same-length
-same_length c = search rules
+shape_of-tiles-in-Refuse : tie.Need-shape_of-tiles-in-Refuse
+shape_of-tiles-in-Refuse c = search rules
 
-same-length-2 : tie.Need-same-length-2
-same-length-2 c = search rules
+shape_of-operations-in-Refuse : tie.Need-shape_of-operations-in-Refuse
+shape_of-operations-in-Refuse c = search rules
 
-same-length-3 : tie.Need-same-length-3
-same-length-3 c = search rules
+shape_of-journal-in-Refuse : tie.Need-shape_of-journal-in-Refuse
+shape_of-journal-in-Refuse c = search rules
 
-returns : tie.Need-returns
-returns c =
-    let s = c.before.before.before.before.before.before.before.before.before.before in
-    refusal_decided (given s) s.args.job s.args.sheet s.args.procedure s.args.address _ c.before.before.before.operation-decision.ensures _ c.before.reply.given.1
+returns-in-Refuse : tie.Need-returns-in-Refuse
+returns-in-Refuse c =
+    let s = c.before.before.before.before.before in
+    refusal_decided (given s) c.args.job c.args.sheet c.args.procedure c.args.address _ c.operation_decision.ensures _ c.in-Refuse.is
 
-same-length-4 : tie.Need-same-length-4
-same-length-4 c = search rules
+shape_of-tiles-in-Perform : tie.Need-shape_of-tiles-in-Perform
+shape_of-tiles-in-Perform c = search rules
 
-same-length-5 : tie.Need-same-length-5
-same-length-5 c = search rules
+shape_of-operations-in-Perform : tie.Need-shape_of-operations-in-Perform
+shape_of-operations-in-Perform c = search rules
 
-same-length-6 : tie.Need-same-length-6
-same-length-6 c = search rules
+shape_of-journal-in-Perform : tie.Need-shape_of-journal-in-Perform
+shape_of-journal-in-Perform c = search rules
 
-returns-2 : tie.Need-returns-2
-returns-2 c =
+returns-in-Perform : tie.Need-returns-in-Perform
+returns-in-Perform c =
     let done = c.before.before.before.before.before.before in
     let spot = done.before.before.before.before.before in
     let decided = spot.before.before in
-    let s = decided.before.before.before.before.before.before.before in
-    (rw (field_read spot.spot.given.0.1.0 done.before.before.before.before.known-told2.given.1.0.1) at done.carry-out.ensures)
-    ∙ carried_decided (given s) s.args.job s.args.sheet s.args.procedure s.args.address _ decided.operation-decision.ensures _ _ spot.spot.given.1
+    let s = decided.before.before in
+    (rw (field_read done.in-Perform.turns c.in-Perform.known_told-in-Perform-1-own.given.1.0.1) at c.carry_out.ensures)
+    ∙ carried_decided (given s) decided.args.job decided.args.sheet decided.args.procedure decided.args.address _ done.operation_decision.ensures _ _ done.in-Perform.is
 
 pub operation_spec : {M : Type 1} → statement M
 operation_spec =
     tie.close
     (tie.spec
-    operation-decision-requires
-    enum-known-reply
-    enum-known-spot
-    carry-out-requires
-    same_length
-    same-length-2
-    same-length-3
-    returns
-    same-length-4
-    same-length-5
-    same-length-6
-    returns-2)
+    operation_decision-requires
+    enum_known-reply
+    enum_known-spot
+    carry_out-requires
+    shape_of-tiles-in-Refuse
+    shape_of-operations-in-Refuse
+    shape_of-journal-in-Refuse
+    returns-in-Refuse
+    shape_of-tiles-in-Perform
+    shape_of-operations-in-Perform
+    shape_of-journal-in-Perform
+    returns-in-Perform)

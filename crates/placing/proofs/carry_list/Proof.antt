@@ -5,9 +5,10 @@ use borrow.Author.Rules.{rules}
 use Rattle.lists.specs.Truth.{test_fails, test_passes}
 use Rattle.service.proofs.Laws.Soundness.{sound_is}
 use Rattle.service.specs.World.{World, world}
+use Rattle.placing.specs.Laws.Carrying.{list_ahead, list_done, list_refused}
+use Rattle.std.proofs.Common.{◌∙◌, sym}
 use Rattle.placing.proofs.carry_list.Statement.{statement}
 use Rattle.placing.proofs.carry_list.Tie as tie
-use Rattle.placing.specs.Laws.Carrying.{list_ahead, list_done, list_refused}
 
 -- what the function was given
 abbrev given : tie.Start → World
@@ -16,62 +17,62 @@ given s = world s.args.session s.args.tiles.now s.args.operations.now s.args.jou
 full : (s : tie.Start) → length s.args.session.marks ≡ 64
 full s = search (rules, s.well_formed)
 
-judge-list-requires : tie.Need-judge-list-requires
-judge-list-requires c κs = let s = c.before.before.before.before.before.before.before in (sound_is (given s) s.requires.ready.is_sound_there, s.requires.fits_list, s.requires.few)
+judge_list-reply-requires : tie.Need-judge_list-reply-requires
+judge_list-reply-requires c κs = let s = c.before.before.before.before in (sound_is (given s) c.requires.ready.is_sound_there, c.requires.fits_list, c.requires.few)
 
 accepted-requires : tie.Need-accepted-requires
 accepted-requires c κs = search rules
 
-same_length : tie.Need-same-length
-same_length c = search rules
+shape_of-tiles-then-not-accepted : tie.Need-shape_of-tiles-then-not-accepted
+shape_of-tiles-then-not-accepted c = search rules
 
-same-length-2 : tie.Need-same-length-2
-same-length-2 c = search rules
+shape_of-operations-then-not-accepted : tie.Need-shape_of-operations-then-not-accepted
+shape_of-operations-then-not-accepted c = search rules
 
-same-length-3 : tie.Need-same-length-3
-same-length-3 c = search rules
+shape_of-journal-then-not-accepted : tie.Need-shape_of-journal-then-not-accepted
+shape_of-journal-then-not-accepted c = search rules
+
+returns-then-not-accepted : tie.Need-returns-then-not-accepted
+returns-then-not-accepted c =
+    let s = c.before.before.before.before.before.before.before in
+    list_refused (given s) c.args.job c.args.sheet c.args.procedure (take c.args.n c.args.keys.now) _ c.judge_list-reply.ensures (sym c.accepted.ensures ∙ c.if-not-accepted.true)
+
+place_all-requires : tie.Need-place_all-requires
+place_all-requires c κs =
+    let s = c.before.before.before.before.before.before.before.before.before.before in (
+      c.requires.fits_list,
+      list_ahead (given s) c.args.job c.args.sheet c.args.procedure c.args.keys.now c.args.n c.requires (full s) _ c.judge_list-reply.ensures
+          (sym c.accepted.ensures ∙ c.if-not-accepted.false),
+    )
+
+shape_of-tiles : tie.Need-shape_of-tiles
+shape_of-tiles c = search rules
+
+shape_of-operations : tie.Need-shape_of-operations
+shape_of-operations c = search rules
+
+shape_of-journal : tie.Need-shape_of-journal
+shape_of-journal c = search rules
 
 returns : tie.Need-returns
 returns c =
-    let s = c.before.before.before.before.before.before.before.before.before.before in
-    list_refused (given s) s.args.job s.args.sheet s.args.procedure (take s.args.n s.args.keys.now) _ c.before.before.judge-list.ensures (test_fails c.before.accepted.ensures c.if1.true)
-
-place-all-requires : tie.Need-place-all-requires
-place-all-requires c κs =
-    let s = c.before.before.before.before.before.before.before.before.before.before.before.before.before in (
-      s.requires.fits_list,
-      list_ahead (given s) s.args.job s.args.sheet s.args.procedure s.args.keys.now s.args.n s.requires (full s) _ c.before.before.before.before.before.judge-list.ensures
-          (test_passes c.before.before.before.before.accepted.ensures c.before.before.before.if1.false),
-    )
-
-same-length-4 : tie.Need-same-length-4
-same-length-4 c = search rules
-
-same-length-5 : tie.Need-same-length-5
-same-length-5 c = search rules
-
-same-length-6 : tie.Need-same-length-6
-same-length-6 c = search rules
-
-returns-2 : tie.Need-returns-2
-returns-2 c =
     let placed = c.before.before.before.before.before.before in
-    let s = placed.before.before.before.before.before.before.before.before.before.before.before.before.before.before in
-    list_done (given s) s.args.job s.args.sheet s.args.procedure (take s.args.n s.args.keys.now) _ placed.before.before.before.before.before.before.judge-list.ensures
-    (test_passes placed.before.before.before.before.before.accepted.ensures placed.before.before.before.before.if1.false) _ placed.place-all.ensures
+    let s = placed.before.before.before.before.before.before.before.before.before.before.before in
+    list_done (given s) c.args.job c.args.sheet c.args.procedure (take c.args.n c.args.keys.now) _ c.judge_list-reply.ensures
+    (sym c.accepted.ensures ∙ c.if-not-accepted.false) _ c.place_all.ensures
 
 pub carry_list_spec : {M : Type 1} → statement M
 carry_list_spec =
     tie.close
     (tie.spec
-    judge-list-requires
+    judge_list-reply-requires
     accepted-requires
-    same_length
-    same-length-2
-    same-length-3
-    returns
-    place-all-requires
-    same-length-4
-    same-length-5
-    same-length-6
-    returns-2)
+    shape_of-tiles-then-not-accepted
+    shape_of-operations-then-not-accepted
+    shape_of-journal-then-not-accepted
+    returns-then-not-accepted
+    place_all-requires
+    shape_of-tiles
+    shape_of-operations
+    shape_of-journal
+    returns)

@@ -3,42 +3,42 @@ use borrow.Author.Rules.{rules}
 use Rattle.admission.specs.Laws.{tile_table}
 use Rattle.service.proofs.Laws.Soundness.{sound_is}
 use Rattle.service.specs.World.{World, world}
+use Rattle.placing.specs.Laws.Parting.{run_done}
 use Rattle.placing.proofs.place_run.Statement.{statement}
 use Rattle.placing.proofs.place_run.Tie as tie
-use Rattle.placing.specs.Laws.Parting.{run_done}
 
 -- what the function was given
 abbrev given : tie.Start → World
 given s = world s.args.session s.args.tiles.now s.args.operations.now s.args.journal.now
 
-note-all-requires : tie.Need-note-all-requires
-note-all-requires c κs = search rules
+note_all-reached-requires : tie.Need-note_all-reached-requires
+note_all-reached-requires c κs = search rules
 
-affect-run-requires : tie.Need-affect-run-requires
-affect-run-requires c κs =
-    let s = c.before.before.before.before.before.before.before.before.before.before.before.before.before in
-    let n = c.before.before.before.before.before.note-all.ensures in
-    (tile_table (given s) (sound_is (given s) s.requires.0.fits.ready.is_sound_there).tables, s.requires.1, n.counted, n.fits)
+affect_run-requires : tie.Need-affect_run-requires
+affect_run-requires c κs =
+    let s = c.before.before.before.before.before.before.before.before.before.before.before.before in
+    let n = c.note_all-reached.ensures in
+    (tile_table (given s) (sound_is (given s) c.requires.0.fits.ready.is_sound_there).tables, c.requires.1, n.counted, n.fits)
 
-same_length : tie.Need-same-length
-same_length c = search rules
+shape_of-tiles : tie.Need-shape_of-tiles
+shape_of-tiles c = search rules
 
-same-length-2 : tie.Need-same-length-2
-same-length-2 c = search rules
+shape_of-operations : tie.Need-shape_of-operations
+shape_of-operations c = search rules
 
-same-length-3 : tie.Need-same-length-3
-same-length-3 c = search rules
+shape_of-journal : tie.Need-shape_of-journal
+shape_of-journal c = search rules
 
 returns : tie.Need-returns
-returns c = run_done _ c.before.before.before.before.before.before.before.before.note-all.ensures c.before.before.affect-run.ensures
+returns c = run_done _ c.note_all-reached.ensures c.affect_run.ensures
 
 pub place_run_spec : {M : Type 1} → statement M
 place_run_spec =
     tie.close
     (tie.spec
-    note-all-requires
-    affect-run-requires
-    same_length
-    same-length-2
-    same-length-3
+    note_all-reached-requires
+    affect_run-requires
+    shape_of-tiles
+    shape_of-operations
+    shape_of-journal
     returns)

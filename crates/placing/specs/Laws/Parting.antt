@@ -9,6 +9,8 @@ use Rattle.strict.specs.declared.Procedure.{Procedure}
 use Rattle.strict.specs.declared.Rule.{Rule}
 use Rattle.grid.specs.Tile.{is_key}
 use Rattle.service.specs.World.{World, state, world}
+use Rattle.service.specs.Calls.{carried}
+use Rattle.strict.specs.Histories.{operation}
 use Rattle.service.specs.declared.Session.{Session}
 use Rattle.rectangles.specs.Claims.{Apart}
 use Rattle.rectangles.specs.Fitting.{Ahead, Fits}
@@ -65,7 +67,7 @@ module _ {job sheet : ℕ} {p : Procedure} {w₀ : World} {ks₀ : List ℕ} whe
   -- and the second behind it
   ahead_along : (w : World) (xs ys : List ℕ) → Ahead job sheet p w₀ ks₀ w (xs ++ ys) → Ahead job sheet p w₀ ks₀ (carried_all w job sheet p xs) ys
   ahead_along w [] ys a = a
-  ahead_along w (x ∷ xs) ys a = ahead_along _ xs ys (ahead_more x (xs ++ ys) a)
+  ahead_along w (x ∷ xs) ys a = ahead_along (carried w (operation job sheet p x)) xs ys (ahead_more x (xs ++ ys) a)
 
 -- A RUN: of the first n of l, those from i to e and those behind
 front_drop : (m i n : ℕ) (l : List ℕ) → i + m ≤ n → take m (drop i (take n l)) ≡ take m (drop i l)
