@@ -1,4 +1,6 @@
 // Whether an operation is admitted on sound tables, its kind and its answer. Nothing is written here.
+#![tactic(auto)]
+
 ghost use Rattle.std.specs.Prelude.{◌&&◌, [], ◌≡◌, eqb, length};
 ghost use Rattle.strict.specs.Book.{places_taken};
 ghost use Rattle.strict.specs.Operations as report;

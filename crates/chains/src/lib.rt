@@ -1,4 +1,6 @@
 // The tests of the rule that the entries of a job fail as one: what changed a tile goes on from what changed it before.
+#![tactic(auto)]
+
 ghost use Rattle.std.specs.Prelude.{◌&&◌, ◌||◌, not, true, map, ◌≡◌, ◌+◌, ◌<◌, ◌≤◌, eqb, get_or, length, take};
 ghost use Rattle.std.proofs.Math.Seq.{slice};
 ghost use Rattle.lists.specs.Truth.{one_if};

@@ -1,5 +1,5 @@
 -- What the end of a job leaves in the tables of a sound world, in the numbers that the code moves
-use Rattle.std.specs.Prelude.{Bool, false, List, [], ◌∷◌, map, ◌≡◌, ◌+◌, ◌-◌, ℕ, eqb, length, set}
+use Rattle.std.specs.Prelude.{Bool, false, List, [], ◌∷◌, map, ◌≡◌, ◌+◌, ℕ, eqb, length, set}
 use Rattle.std.proofs.Common.{◌∙◌, ap, ap₂, sym, arith}
 use Rattle.std.proofs.lemmas.List.{length-map}
 use Rattle.lists.specs.Lists.{All, padded}

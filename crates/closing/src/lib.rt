@@ -1,4 +1,6 @@
 // What the end of a job does to the tables and to the session, by a commit or an abort: for the calls and for the replay. No journal.
+#![tactic(auto)]
+
 ghost use Rattle.std.specs.Prelude.{true, [], map, ◌≡◌, ◌≤◌, length, take};
 ghost use Rattle.lists.specs.Lists.{padded};
 ghost use Rattle.strict.specs.Book.{others, spoken_by};

@@ -1,4 +1,6 @@
 // The table of commutativity as it is read: a constant, equal to the one of strict's specs/Commutativity.antt.
+#![tactic(auto)]
+
 ghost use Rattle.std.specs.Prelude.{◌≡◌, ◌<◌, ◌≤◌};
 ghost use Rattle.strict.specs.Commutativity.{entry_at};
 

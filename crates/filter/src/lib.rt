@@ -1,4 +1,6 @@
 // A filter over the tiles of entries: where the bit of a tile is not set, no entry that the filter has met has the tile.
+#![tactic(auto)]
+
 ghost use Rattle.std.specs.Prelude.{false, true, List, ◌≡◌, ◌<◌, ◌≤◌, ℕ, eqb, length, take};
 ghost use Rattle.filter.specs.Filter.{Covers, bit_in, elsewhere, slot_of};
 

@@ -1,5 +1,5 @@
 -- WHAT KEYS ARE: laws of addresses and their keys
-use Rattle.std.specs.Prelude.{◌||◌, cond, false, true, ◌↔◌, ◌≢◌, ◌≡◌, refl, ◌-◌, ◌<◌, ◌^◌, ◌≤◌, ℕ, eqb, ◌*ℤ◌, ◌+ℤ◌, pos, ℤ}
+use Rattle.std.specs.Prelude.{cond, true, ◌↔◌, ◌≢◌, ◌≡◌, refl, ◌-◌, ◌<◌, ◌^◌, ◌≤◌, ℕ, eqb, ◌*ℤ◌, ◌+ℤ◌, pos, ℤ}
 use Rattle.std.proofs.Math.Option.{none, some}
 use Rattle.std.proofs.Common.{◌∙◌, ap, sym, arith, pow_pos}
 use Rattle.grid.proofs.Laws.Keys.{around_is, around_lt, column_back, has_key, key_above, key_valid, keyed_at, keyed_edition, no_edition, row_back, turned_back, turned_inside, valid_key, zoom_back}

@@ -1,4 +1,5 @@
 // The grid of tiles: addresses, keys and levels. What each of them means is in specs/.
+#![tactic(auto)]
 
 // A key is zoom, column and row.
 pub const ZOOM_FACTOR: u32 = 268435456;

@@ -1,4 +1,6 @@
 // An entry of the operation table as one number: made of a sheet, a kind, a job and a key, and taken apart.
+#![tactic(auto)]
+
 ghost use Rattle.std.specs.Prelude.{◌≡◌, ◌≤◌};
 ghost use Rattle.service.specs.Entry.{job_in, key_in, kind_in, op_in, pack_entry, sheet_in};
 ghost use Rattle.layout.specs.Whose.{meant};

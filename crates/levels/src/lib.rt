@@ -1,4 +1,6 @@
 // The tiles of each level: counted in a tile table, and kept where a tile comes or goes.
+#![tactic(auto)]
+
 ghost use Rattle.std.specs.Prelude.{true, ◌≡◌, ◌<◌, ◌≤◌, get_or, length, take};
 ghost use Rattle.lists.specs.Lists.{All, same_numbers};
 ghost use Rattle.grid.proofs.Laws.Counting.{level_place};

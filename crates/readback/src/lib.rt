@@ -1,1 +1,3 @@
+#![tactic(auto)]
+
 // What a journal's bytes say when they are read. What is proved of it is in specs/.

@@ -1,5 +1,5 @@
 -- WHAT ANY JOURNAL IS REPLAYED TO, whoever wrote it, in whichever form its records are
-use Rattle.std.specs.Prelude.{Bool, false, true, List, [], ◌++◌, ◌↔◌, ◌≢◌, ◌⊎◌, ◌≡◌, refl, ◌+◌, ◌-◌, ◌<◌, ◌≤◌, ℕ, drop, length, take}
+use Rattle.std.specs.Prelude.{Bool, false, true, List, [], ◌++◌, ◌↔◌, ◌≢◌, ◌⊎◌, ◌≡◌, refl, ◌+◌, ◌<◌, ◌≤◌, ℕ, drop, length, take}
 use Rattle.std.proofs.Common.{◌∙◌, ap}
 use Rattle.strict.specs.Operations.{answer}
 use Rattle.strict.specs.declared.Procedure.{Procedure}

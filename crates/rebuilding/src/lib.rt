@@ -1,1 +1,3 @@
+#![tactic(auto)]
+
 // What replaying a journal leaves. What is proved of it is in specs/.

@@ -1,5 +1,5 @@
 -- What the theorems speak of: calls one after another, and calls with rectangles among them
-use Rattle.std.specs.Prelude.{Bool, ◌&&◌, ◌||◌, false, true, List, [], ◌++◌, ◌∷◌, map, ◌≢◌, ◌⊎◌, ◌≡◌, ◌*◌, ◌+◌, ◌-◌, ◌<◌, ◌^◌, ◌≤◌, ℕ, eqb, ltb, ℤ, length, ◌<ℤ◌, ◌≤ℤ◌}
+use Rattle.std.specs.Prelude.{Bool, ◌&&◌, ◌||◌, false, true, List, [], ◌++◌, ◌∷◌, map, ◌≢◌, ◌⊎◌, ◌≡◌, ◌*◌, ◌+◌, ◌-◌, ◌<◌, ◌^◌, ℕ, eqb, ltb, ℤ, length, ◌<ℤ◌, ◌≤ℤ◌}
 use Rattle.std.proofs.Math.Option.{none, some}
 use Rattle.lists.specs.Lists.{All}
 use Rattle.strict.specs.Book.{Book, held_by, needs_place, places_taken, step}

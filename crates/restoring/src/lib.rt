@@ -1,4 +1,6 @@
 // The tiles of a job restored at once: what is to go and what is to come back is noted entry by entry, and then the tiles are moved in one pass.
+#![tactic(auto)]
+
 ghost use Rattle.std.specs.Prelude.{false, not, true, ◌≡◌, ◌+◌, ◌<◌, ◌≤◌, get_or, length, take};
 ghost use Rattle.lists.specs.Lists.{padded};
 ghost use Rattle.lists.specs.Truth.{one_if};

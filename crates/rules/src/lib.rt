@@ -1,4 +1,6 @@
 // What differs by the session's rule, one function for each: the test of the entries, the places spoken for, and who holds a new operation.
+#![tactic(auto)]
+
 ghost use Rattle.std.specs.Prelude.{map, ◌≡◌, ◌≤◌, length, take};
 ghost use Rattle.strict.specs.Book.{spoken_of};
 ghost use Rattle.service.specs.Entry.{op_in};

@@ -1,4 +1,6 @@
 // Ascending runs of keys, put into the tile table or taken out of it in one pass over it.
+#![tactic(auto)]
+
 ghost use Rattle.std.specs.Prelude.{false, true, ◌++◌, ◌≡◌, ◌-◌, ◌<◌, ◌≤◌, drop, get_or, length, replicate, take};
 ghost use Rattle.lists.specs.Lists.{padded};
 ghost use Rattle.strict.specs.Operations as report;

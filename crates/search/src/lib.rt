@@ -1,4 +1,6 @@
 // Where a key stands in a tile table, or would be put: a binary search, and the same without a loop.
+#![tactic(auto)]
+
 ghost use Rattle.std.specs.Prelude.{◌≡◌, ◌+◌, ◌<◌, ◌≤◌, take};
 ghost use Rattle.search.specs.Table.{Between, TileTable, position_of};
 

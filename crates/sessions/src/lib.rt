@@ -1,4 +1,6 @@
 // A session by itself, without its tables.
+#![tactic(auto)]
+
 ghost use Rattle.std.specs.Prelude.{◌≡◌};
 ghost use Rattle.service.specs.Calls.{empty_session, unopened};
 ghost use Rattle.service.specs.World.{count_at};

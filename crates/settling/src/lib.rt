@@ -1,4 +1,6 @@
 // Whether the tiles are as the entries left them, by the rule that each entry fails alone.
+#![tactic(auto)]
+
 ghost use Rattle.std.specs.Prelude.{false, true, ◌≡◌, ◌+◌, ◌<◌, ◌≤◌, get_or, length, take};
 ghost use Rattle.std.proofs.Math.Seq.{slice};
 ghost use Rattle.strict.specs.Tiles.{member};

@@ -1,4 +1,6 @@
 // Whether lent tables are sound: service's `tabledB` and `soundB`, computed in an order in which each test may rely on those before it.
+#![tactic(auto)]
+
 ghost use Rattle.std.specs.Prelude.{[], ◌≡◌, true, ◌≤◌, length, take};
 ghost use Rattle.lists.specs.Lists.{All};
 ghost use Rattle.grid.specs.Tile.{is_key};

@@ -1,5 +1,5 @@
 -- Without the sheets: what is left of an operation, a history, a book and a holder where sheets are not looked at
-use Rattle.std.specs.Prelude.{List, map, ℕ}
+use Rattle.std.specs.Prelude.{map}
 use Rattle.std.proofs.Math.Option.{Option, none, some}
 use Rattle.strict.specs.Book.{Book}
 use Rattle.strict.specs.Commutativity.{Signature}

@@ -1,8 +1,6 @@
 -- `chains::deleted_from` meets its contract: what is left to look at says what the whole does
 use mathlib.Core.Path.{◌∙◌, ap, refl, sym}
-use Prim.Native.Nat.{◌-◌}
 use native.Mathlib.Omega.{arith}
-use lib.Seq.{slice}
 use Rattle.lists.specs.Lists.{slice_end}
 use Rattle.chains.proofs.Passes.{deleted_turn, deleted_in}
 use Rattle.chains.proofs.deleted_from.Goals as goal

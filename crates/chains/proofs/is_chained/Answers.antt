@@ -1,10 +1,8 @@
 -- `chains::is_chained` meets its contract: the entries behind are settled, and each slot has the nearest of them
-use mathlib.Core.Bool.{true}
 use mathlib.Core.Path.{◌∙◌, ◌≡◌, ap, sym}
 use Prim.Native.Nat.{◌+◌, ◌-◌, ◌<◌, ℕ}
 use native.Mathlib.Omega.{arith}
 use lib.ListN.{get_or, length, length-replicate, length-set}
-use lib.Seq.{slice}
 use Rattle.lists.specs.Lists.{slice_end}
 use Rattle.strict.specs.declared.Rule.TheVariants.{Together}
 use Rattle.service.specs.Entry.{key_in}

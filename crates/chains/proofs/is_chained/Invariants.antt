@@ -1,6 +1,6 @@
 use mathlib.Core.Bool.{Bool, true}
 use mathlib.Core.Path.{◌≡◌}
-use Prim.Native.Nat.{◌-◌, ◌≤◌, ℕ}
+use Prim.Native.Nat.{◌≤◌, ℕ}
 use lib.ListN.{length, take}
 use lib.Seq.{slice}
 use Rattle.strict.specs.declared.Rule.TheVariants.{Together}

@@ -1,9 +1,7 @@
 -- `chains::is_followed` meets its contract: what is left to look at says what the whole does
 use mathlib.Core.Path.{◌∙◌, ap, refl, sym}
-use Prim.Native.Nat.{◌-◌}
 use native.Mathlib.Omega.{arith}
 use lib.ListN.{take}
-use lib.Seq.{slice}
 use Rattle.lists.specs.Lists.{slice_end}
 use Rattle.chains.specs.Chains.{followed}
 use Rattle.chains.proofs.Passes.{followed_turn}

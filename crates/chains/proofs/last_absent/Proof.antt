@@ -4,7 +4,6 @@ use mathlib.Core.Path.{◌∙◌, ◌≡◌, ap, sym}
 use native.Mathlib.Omega.{arith}
 use lib.ListN.{take}
 use borrow.Author.Rules.{rules}
-use Rattle.lists.specs.Truth.{test_fails, test_passes}
 use Rattle.service.specs.Entry.{key_in}
 use Rattle.strict.specs.Tiles.{member}
 use Rattle.chains.proofs.last_absent.Statement.{statement}

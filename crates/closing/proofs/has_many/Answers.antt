@@ -1,5 +1,4 @@
 -- `closing::has_many` is safe and ends: fewer than are asked for have been met
-use Prim.Native.Nat.{◌-◌}
 use native.Mathlib.Omega.{arith}
 use Rattle.closing.proofs.has_many.Goals as goal
 use Rattle.closing.proofs.has_many.Goals.{else-job_in-job, then-job_in-job+else-left-eq0}

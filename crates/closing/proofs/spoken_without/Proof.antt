@@ -5,7 +5,6 @@ use native.Mathlib.Omega.{arith}
 use Rattle.admission.specs.Laws.{tile_table}
 use Rattle.service.specs.World.{World, world}
 use Rattle.closing.specs.Forms.{spoken_left_lem}
-use borrow.Author.Rules.{rules}
 use Rattle.closing.proofs.spoken_without.Statement.{statement}
 use Rattle.closing.proofs.spoken_without.Tie as tie
 

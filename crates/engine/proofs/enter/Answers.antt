@@ -17,8 +17,7 @@ pub overflow_add-next : goal.overflow_add-next
 overflow_add-next c = let p = c.requires in omega (arith, p.0.slot, p.0.few_slots_lem)
 
 pub returns : goal.returns
-returns c =
-    (
-      rw (c.counting-next.ensures, c.after-tally.ensures, c.tally_of.ensures, c.spoken_after-spoken.ensures, c.kind-kind.ensures) refl,
-      rw (c.entry.ensures, c.kind-kind.ensures) refl,
-    )
+returns c = (
+  rw (c.counting-next.ensures, c.after-tally.ensures, c.tally_of.ensures, c.spoken_after-spoken.ensures, c.kind-kind.ensures) refl,
+  rw (c.entry.ensures, c.kind-kind.ensures) refl,
+)

@@ -1,6 +1,6 @@
 -- `entries::close_gaps` meets its contract: after each turn the gaps are closed among the entries passed
 use mathlib.Core.Path.{◌≡◌}
-use Prim.Native.Nat.{◌-◌, ◌<◌}
+use Prim.Native.Nat.{◌<◌}
 use native.Mathlib.Omega.{arith}
 use lib.ListN.{length, length-set}
 use Rattle.entries.proofs.Gaps.{ends, goes, starts, stays}

@@ -1,5 +1,4 @@
 -- `entries::count_reserved` meets its contract: what is counted and what is left to count are together the whole
-use Prim.Native.Nat.{◌-◌}
 use native.Mathlib.Omega.{arith}
 use Rattle.entries.proofs.Passes.{three_end, three_next}
 use Rattle.entries.proofs.count_reserved.Goals as goal

@@ -1,9 +1,8 @@
 -- `entries::first_others_change` meets its contract: no entry passed holds, so the first holder of the rest is the first of all
 use mathlib.Core.Path.{◌∙◌, refl, sym}
-use Prim.Native.Nat.{◌-◌}
 use native.Mathlib.Omega.{arith}
 use Rattle.entries.specs.Table.{others_change}
-use Rattle.entries.proofs.Passes.{place_end, place_here, place_on, placed, placed_start}
+use Rattle.entries.proofs.Passes.{place_end, place_here, place_on, placed_start}
 use Rattle.entries.proofs.first_others_change.Goals as goal
 
 pub loop-i-init : goal.loop-i-init

@@ -7,7 +7,6 @@ use Rattle.grid.specs.Levels.{levels_of, tiles_at}
 use Rattle.grid.specs.Limits.{zoom_factor}
 use Rattle.search.specs.Table.{position_of}
 use Rattle.levels.proofs.Places.{between, counts_written, in_places, none_lower}
-use borrow.Author.Rules.{rules}
 use Rattle.levels.proofs.count_levels.Statement.{statement}
 use Rattle.levels.proofs.count_levels.Tie as tie
 

@@ -2,7 +2,7 @@
 use Rattle.std.specs.Prelude.{Bool, false, true, ◌↔◌, ◌≢◌, ◌≡◌, refl, ◌%◌, ◌*◌, ◌+◌, ◌-◌, ◌/◌, ◌<◌, ◌^◌, ◌≤◌, suc, ℕ, eqb, ltb, ◌+ℤ◌, pos, ℤ}
 use Rattle.std.proofs.Math.Bool.{not}
 use Rattle.std.proofs.Common.{inl, inr, ◌∙◌, ap₂, subst, sym, div-add-mod', div-lt_iff_lt-mul, mod-eq_of_lt, mod-lt, mul-le-mul_right, suc-mul, arith, pow_pos, eqb-true, ltb-false, ltb-true}
-use Rattle.std.proofs.Math.Option.{Option, none, some}
+use Rattle.std.proofs.Math.Option.{Option, some}
 use Rattle.std.proofs.Math.Path.{ap}
 use Rattle.std.proofs.Math.Nat.{div-eq_of_lt, mul-add-div_right, mul-add-mod_self_right}
 use Rattle.std.proofs.lemmas.Bool.{eqb-false, not-false}

@@ -1,6 +1,5 @@
 -- `restoring::note_job` meets its contract: at each turn the entries from i on have been noted
 use mathlib.Core.Path.{◌∙◌, ◌≡◌, sym}
-use Prim.Native.Nat.{◌-◌}
 use native.Mathlib.Omega.{arith}
 use Rattle.restoring.proofs.Downward.{begins, may_note, passes, takes}
 use Rattle.restoring.specs.Laws.{entry_valid}

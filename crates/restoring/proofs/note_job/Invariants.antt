@@ -1,4 +1,3 @@
-use Prim.Native.Nat.{◌-◌}
 use Rattle.restoring.proofs.Downward.{NotedFrom}
 use Rattle.restoring.proofs.note_job.Given as goal
 

@@ -1,8 +1,7 @@
 -- `runs::keep_others` meets its contract: what is kept, with what is left to keep of the tiles ahead, is the same at each turn
 use mathlib.Core.Path.{subst}
-use Prim.Native.Nat.{◌-◌}
 use native.Mathlib.Omega.{arith}
-use lib.ListN.{get_or, length}
+use lib.ListN.{get_or}
 use Rattle.runs.proofs.Keeping.{ends, goes, passes, starts, stays}
 use Rattle.runs.specs.Runs.{Met}
 use Rattle.runs.proofs.keep_others.Goals as goal

@@ -1,7 +1,7 @@
 -- `runs::put_run` meets its contract: what is left to merge in front of `place`, with what stands behind it, is the same at each turn
 use mathlib.Core.Path.{◌∙◌, refl}
 use native.Mathlib.Omega.{arith}
-use lib.ListN.{length, length-set, take}
+use lib.ListN.{length-set, take}
 use Rattle.strict.specs.Operations.{put}
 use Rattle.search.specs.Laws.{used_length}
 use Rattle.runs.proofs.Merging.{all_longer, ends, padded_goal, place_there, starts, turns}

@@ -1,5 +1,4 @@
 -- `runs::run_end` meets its contract: the keys passed so far ascend
-use Prim.Native.Nat.{◌-◌}
 use native.Mathlib.Omega.{arith}
 use Rattle.runs.proofs.Ascents.{run_more, run_one}
 use Rattle.runs.proofs.run_end.Goals as goal

@@ -1,6 +1,5 @@
 -- `scans::entries_fit` meets its contract: what is left to test passes just where the whole does
 use mathlib.Core.Path.{◌∙◌, refl, sym}
-use Prim.Native.Nat.{◌-◌}
 use native.Mathlib.Omega.{arith}
 use Rattle.lists.specs.Lists.{all_end, all_turn}
 use Rattle.scans.proofs.entries_fit.Goals as goal

@@ -1,6 +1,5 @@
 -- `scans::keys_ascend` meets its contract: what is left to test, from above the last key, passes just where the whole does
 use mathlib.Core.Path.{◌∙◌, refl, sym}
-use Prim.Native.Nat.{◌-◌}
 use native.Mathlib.Omega.{arith}
 use lib.ListN.{take}
 use borrow.Author.Tests.{le-ltb, lt-ltb}

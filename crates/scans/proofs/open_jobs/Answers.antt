@@ -1,8 +1,7 @@
 -- `scans::open_jobs` meets its contract: what is counted, with what is left to count, is always the whole
 use mathlib.Core.Path.{◌≡◌, ap}
-use Prim.Native.Nat.{◌-◌}
 use native.Mathlib.Omega.{arith}
-use lib.ListN.{drop, drop_of_length-le, length}
+use lib.ListN.{drop_of_length-le, length}
 use borrow.Author.Rules.{rules}
 use Rattle.service.specs.Admission.{open_marks}
 use Rattle.scans.proofs.Passes.{marks_turn}

@@ -1,6 +1,5 @@
 -- `scans::tiles_clear` meets its contract: the flag so far and what is left to test pass just where the whole does
 use mathlib.Core.Path.{◌∙◌, sym}
-use Prim.Native.Nat.{◌-◌}
 use native.Mathlib.Omega.{arith}
 use lib.ListN.{length}
 use lib.Seq.{take-length}

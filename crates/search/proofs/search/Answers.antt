@@ -1,6 +1,5 @@
 -- The place never leaves the range from `low` to `high`: each turn tests the element in the middle
 use mathlib.Core.Path.{refl}
-use Prim.Native.Nat.{◌-◌}
 use native.Mathlib.Omega.{arith}
 use Rattle.search.proofs.Places.{place_behind, place_up_to}
 use Rattle.search.specs.Laws.{within}

@@ -1,5 +1,5 @@
 -- The numbers 6 to 9 and 0 of an operation that 1, 2, 3 and 5 do not refuse, each exactly
-use Rattle.std.specs.Prelude.{Bool, ◌&&◌, cond, false, not, true, List, [], ◌∷◌, map, ◌↔◌, ◌≢◌, ◌⊎◌, ◌≡◌, refl, ◌<◌, ◌≤◌, ℕ, eqb, ltb, length}
+use Rattle.std.specs.Prelude.{Bool, ◌&&◌, cond, false, not, true, List, [], ◌∷◌, map, ◌↔◌, ◌≢◌, ◌≡◌, refl, ◌<◌, ◌≤◌, ℕ, eqb, ltb, length}
 use Rattle.std.proofs.Common.{inl, inr, ⊎_elim, ◌∙◌, ap, subst, sym, arith, length-take-le}
 use Rattle.std.proofs.Math.Option.{Option, none, some}
 use Rattle.std.proofs.lemmas.List.{length-map}

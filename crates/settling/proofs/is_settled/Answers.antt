@@ -1,5 +1,4 @@
 -- `settling::is_settled` meets its contract: the entries behind are settled, and the filter covers them
-use mathlib.Core.Bool.{true}
 use mathlib.Core.Path.{◌∙◌, ◌≡◌, ap, refl, sym}
 use Prim.Native.Nat.{◌+◌, ◌-◌, ◌/◌, ◌<◌}
 use native.Mathlib.Omega.{arith}

@@ -5,7 +5,6 @@ use mathlib.Core.Path.{sym}
 use borrow.Author.Tests.{le-leb, lt-leb}
 use Rattle.scans.specs.Tests.{fails}
 use Rattle.soundness.specs.Tests.{count_tests}
-use borrow.Author.Rules.{rules}
 use Rattle.soundness.proofs.counts_fit.Statement.{statement}
 use Rattle.soundness.proofs.counts_fit.Tie as tie
 

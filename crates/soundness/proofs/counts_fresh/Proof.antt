@@ -7,7 +7,6 @@ use native.Mathlib.Omega.{arith}
 use lib.ListN.{length}
 use borrow.Author.Tests.{le-leb, lt-leb}
 use Rattle.lists.specs.Lists.{same_numbers}
-use Rattle.lists.specs.Truth.{test_fails, test_passes}
 use Rattle.scans.specs.Tests.{fails}
 use Rattle.grid.proofs.Laws.Counting.{eleven_levels}
 use Rattle.grid.specs.Levels.{levels_of}

@@ -4,7 +4,6 @@ use mathlib.Core.List.{List, ◌∷◌}
 use mathlib.Core.Path.{sym}
 use borrow.Author.Rules.{rules}
 use borrow.Author.Tests.{le-leb, lt-leb}
-use Rattle.lists.specs.Truth.{test_fails, test_passes}
 use Rattle.scans.specs.Tests.{fails}
 use Rattle.service.specs.Sound.{journal_tests, sound_B, tabled_B}
 use Rattle.service.specs.World.{World, world}

@@ -3,8 +3,6 @@ use mathlib.Core.Path.{◌∙◌}
 use Prim.Native.Nat.{◌≤◌}
 use native.Mathlib.Omega.{arith}
 use borrow.Author.Rules.{rules}
-use borrow.Author.Tests.{not-false}
-use Rattle.lists.specs.Truth.{test_fails, test_passes}
 use Rattle.soundness.proofs.Laws.{Counted, counted, keys_valid, last_decides, part_fails, tile_table}
 use Rattle.std.proofs.Common.{sym}
 use Rattle.soundness.proofs.tables_sound.Statement.{statement}

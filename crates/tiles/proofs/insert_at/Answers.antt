@@ -1,7 +1,7 @@
 -- To put the key into the table as it is, with the first `j` places used, makes what the whole call makes
 use mathlib.Core.Path.{◌∙◌, refl}
 use native.Mathlib.Omega.{arith}
-use lib.ListN.{length, length-set}
+use lib.ListN.{length-set}
 use Rattle.tiles.proofs.Moves.{insert_end, insert_turn}
 use Rattle.tiles.proofs.insert_at.Goals as goal
 

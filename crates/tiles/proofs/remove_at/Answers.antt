@@ -1,8 +1,7 @@
 -- To take the place `i` out of the table as it is makes what the whole call makes
 use mathlib.Core.Path.{◌∙◌, refl}
-use Prim.Native.Nat.{◌-◌}
 use native.Mathlib.Omega.{arith}
-use lib.ListN.{length, length-set}
+use lib.ListN.{length-set}
 use Rattle.tiles.proofs.Moves.{remove_end, remove_turn}
 use Rattle.tiles.proofs.remove_at.Goals as goal
 

@@ -8,7 +8,6 @@ use mir.Syntax.{w32}
 use mir.Val.{of_z, to_z}
 use Rattle.address.specs.Rows.{Row, row_kept, row_there, row_turned}
 use Rattle.address.proofs.Signed.{cast_natural}
-use borrow.Author.Rules.{rules}
 use Rattle.address.proofs.Level.north_row.Statement.{statement}
 use Rattle.address.proofs.Level.north_row.Tie as tie
 

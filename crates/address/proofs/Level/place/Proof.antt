@@ -4,7 +4,6 @@ use mathlib.Core.Path.{◌≡◌}
 use lib.IntN.{pos}
 use mir.Facts.{to_z-of_z}
 use borrow.Author.Rules.{rules}
-use Rattle.lists.specs.Truth.{test_fails, test_passes}
 use Rattle.grid.specs.Tile.{address_of, is_edition, north_row}
 use Rattle.grid.specs.declared.Address.{Address}
 use Rattle.address.specs.Rows.{has_row, step_fits, step_misnamed, step_placed, step_rowless}
