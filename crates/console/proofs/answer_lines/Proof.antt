@@ -4,104 +4,105 @@ use Prim.Native.Nat.{◌*◌, ◌+◌, ◌≤◌}
 use native.Mathlib.Omega.{arith}
 use lib.ListN.{length}
 use borrow.Author.Rules.{rules}
+use Rattle.desk.specs.Lent.{Lent}
 use Rattle.console.proofs.answer_lines.Statement.{statement}
 use Rattle.console.proofs.answer_lines.Tie as tie
-use Rattle.desk.specs.Lent.{Lent}
 
-abbrev invariant-loop : tie.invariant-loop
-invariant-loop left text tiles₀ operations₀ journal₀ reached₀ at₀ more₀ tiles operations journal reached at more =
+-- `console::answer_lines` meets its contract: what is lent is there, and each line takes one of those that may come
+abbrev invariant-loop-more : tie.invariant-loop-more
+invariant-loop-more left text tiles₀ operations₀ journal₀ reached₀ at₀ more₀ tiles operations journal reached at more =
     (at ≤ length text) × (at + more * 65536 ≤ left * 65536) × (length tiles ≡ length tiles₀) × (length operations ≡ length operations₀) × (length journal ≡ length journal₀) × Lent reached tiles₀ operations₀ journal₀
 
-abbrev decreases-loop : tie.decreases-loop
-decreases-loop left text tiles₀ operations₀ journal₀ reached₀ at₀ more₀ tiles operations journal reached at more = more
+abbrev decreases-loop-more : tie.decreases-loop-more
+decreases-loop-more left text tiles₀ operations₀ journal₀ reached₀ at₀ more₀ tiles operations journal reached at more = more
 
 -- a line keeps the tables' lengths
-kept : (c : tie.After-answer-line invariant-loop decreases-loop) →
-    let l = c.before.before.before.before.before.before.before.before.loop in
-    (length c.answer-line.new.1.1.0 ≡ length l.tiles) × (length c.answer-line.new.1.1.1.0 ≡ length l.operations) × (length c.answer-line.new.1.1.1.1.0 ≡ length l.journal)
+kept : (c : tie.After-answer_line-reached invariant-loop-more decreases-loop-more) →
+    let l = c.loop-more in
+    (length c.answer_line-reached.new.1.1.0 ≡ length l.tiles) × (length c.answer_line-reached.new.1.1.1.0 ≡ length l.operations) × (length c.answer_line-reached.new.1.1.1.1.0 ≡ length l.journal)
 kept c = (search rules, search rules, search rules)
 
-loop-holds : tie.Need-loop-init invariant-loop decreases-loop
-loop-holds c = (omega arith, omega arith, refl, refl, refl, c.before.before.before.before.requires.1)
+loop-more-init : tie.Need-loop-more-init invariant-loop-more decreases-loop-more
+loop-more-init c = (omega arith, omega arith, refl, refl, refl, c.requires.1)
 
-find-requires : tie.Need-find-requires invariant-loop decreases-loop
-find-requires c κs = omega arith
+find-end-requires : tie.Need-find-end-requires invariant-loop-more decreases-loop-more
+find-end-requires c κs = omega arith
 
-sub-answer-line : tie.Need-overflow-sub-answer-line invariant-loop decreases-loop
-sub-answer-line c = omega arith
+slice_bounds-answer_line-count : tie.Need-slice_bounds-answer_line-count invariant-loop-more decreases-loop-more
+slice_bounds-answer_line-count c = omega arith
 
-part-answer-line-start : tie.Need-slice-bounds-answer-line-start invariant-loop decreases-loop
-part-answer-line-start c = omega arith
+slice_bounds-answer_line-start : tie.Need-slice_bounds-answer_line-start invariant-loop-more decreases-loop-more
+slice_bounds-answer_line-start c = omega arith
 
-part-answer-line-end : tie.Need-slice-bounds-answer-line-end invariant-loop decreases-loop
-part-answer-line-end c = omega arith
+slice_bounds-answer_line-end : tie.Need-slice_bounds-answer_line-end invariant-loop-more decreases-loop-more
+slice_bounds-answer_line-end c = omega arith
 
-answer-line-requires : tie.Need-answer-line-requires invariant-loop decreases-loop
-answer-line-requires c κs =
-    let l = c.before.before.before.before.before.before.before.loop in
+answer_line-reached-requires : tie.Need-answer_line-reached-requires invariant-loop-more decreases-loop-more
+answer_line-reached-requires c κs =
+    let l = c.loop-more in
     (rw l.invariant.2 l.invariant.5.0, rw l.invariant.3 l.invariant.5.1, rw l.invariant.4 l.invariant.5.2)
 
-add_at : tie.Need-overflow-add-at invariant-loop decreases-loop
-add_at c = omega arith
+overflow_add-at : tie.Need-overflow_add-at invariant-loop-more decreases-loop-more
+overflow_add-at c = omega arith
 
-sub_more : tie.Need-overflow-sub-more invariant-loop decreases-loop
-sub_more c = omega arith
+overflow_sub-more : tie.Need-overflow_sub-more invariant-loop-more decreases-loop-more
+overflow_sub-more c = omega arith
 
-loop-less : tie.Need-loop-smaller invariant-loop decreases-loop
-loop-less c = omega arith
+loop-more-smaller : tie.Need-loop-more-smaller invariant-loop-more decreases-loop-more
+loop-more-smaller c = omega arith
 
-loop-again : tie.Need-loop-preserved invariant-loop decreases-loop
-loop-again c =
+loop-more-preserved : tie.Need-loop-more-preserved invariant-loop-more decreases-loop-more
+loop-more-preserved c =
     let k = kept c.before.before.before.before.before.before in
-    let l = c.before.before.before.before.before.before.before.before.before.before.before.before.before.before.loop in
-    let lent = c.before.before.before.before.before.before.answer-line.ensures in
+    let l = c.loop-more in
+    let lent = c.answer_line-reached.ensures in
     (omega arith, omega arith, k.0 ∙ l.invariant.2, k.1 ∙ l.invariant.3, k.2 ∙ l.invariant.4, (rw (sym l.invariant.2) lent.0, rw (sym l.invariant.3) lent.1, rw (sym l.invariant.4) lent.2))
 
-same_length : tie.Need-same-length invariant-loop decreases-loop
-same_length c = search rules
+shape_of-tiles-after-loop-more : tie.Need-shape_of-tiles-after-loop-more invariant-loop-more decreases-loop-more
+shape_of-tiles-after-loop-more c = search rules
 
-same-length-2 : tie.Need-same-length-2 invariant-loop decreases-loop
-same-length-2 c = search rules
+shape_of-operations-after-loop-more : tie.Need-shape_of-operations-after-loop-more invariant-loop-more decreases-loop-more
+shape_of-operations-after-loop-more c = search rules
 
-same-length-3 : tie.Need-same-length-3 invariant-loop decreases-loop
-same-length-3 c = search rules
+shape_of-journal-after-loop-more : tie.Need-shape_of-journal-after-loop-more invariant-loop-more decreases-loop-more
+shape_of-journal-after-loop-more c = search rules
 
-returns : tie.Need-returns invariant-loop decreases-loop
-returns c = search rules
+returns-after-loop-more : tie.Need-returns-after-loop-more invariant-loop-more decreases-loop-more
+returns-after-loop-more c = search rules
 
-same-length-4 : tie.Need-same-length-4 invariant-loop decreases-loop
-same-length-4 c = search rules
+shape_of-tiles-then-end-text : tie.Need-shape_of-tiles-then-end-text invariant-loop-more decreases-loop-more
+shape_of-tiles-then-end-text c = search rules
 
-same-length-5 : tie.Need-same-length-5 invariant-loop decreases-loop
-same-length-5 c = search rules
+shape_of-operations-then-end-text : tie.Need-shape_of-operations-then-end-text invariant-loop-more decreases-loop-more
+shape_of-operations-then-end-text c = search rules
 
-same-length-6 : tie.Need-same-length-6 invariant-loop decreases-loop
-same-length-6 c = search rules
+shape_of-journal-then-end-text : tie.Need-shape_of-journal-then-end-text invariant-loop-more decreases-loop-more
+shape_of-journal-then-end-text c = search rules
 
-returns-2 : tie.Need-returns-2 invariant-loop decreases-loop
-returns-2 c = search rules
+returns-then-end-text : tie.Need-returns-then-end-text invariant-loop-more decreases-loop-more
+returns-then-end-text c = search rules
 
 pub answer_lines_spec : {M : Type 1} → statement M
 answer_lines_spec =
     tie.close
     (tie.spec
-    invariant-loop
-    decreases-loop
-    loop-holds
-    find-requires
-    sub-answer-line
-    part-answer-line-start
-    part-answer-line-end
-    answer-line-requires
-    add_at
-    sub_more
-    loop-less
-    loop-again
-    same_length
-    same-length-2
-    same-length-3
-    returns
-    same-length-4
-    same-length-5
-    same-length-6
-    returns-2)
+    invariant-loop-more
+    decreases-loop-more
+    loop-more-init
+    find-end-requires
+    slice_bounds-answer_line-count
+    slice_bounds-answer_line-start
+    slice_bounds-answer_line-end
+    answer_line-reached-requires
+    overflow_add-at
+    overflow_sub-more
+    loop-more-smaller
+    loop-more-preserved
+    shape_of-tiles-after-loop-more
+    shape_of-operations-after-loop-more
+    shape_of-journal-after-loop-more
+    returns-after-loop-more
+    shape_of-tiles-then-end-text
+    shape_of-operations-then-end-text
+    shape_of-journal-then-end-text
+    returns-then-end-text)

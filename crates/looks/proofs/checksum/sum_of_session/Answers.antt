@@ -1,0 +1,19 @@
+-- `looks::checksum::sum_of_session` is safe and ends
+use Prim.Native.Nat.{◌-◌}
+use native.Mathlib.Omega.{arith}
+use Rattle.looks.proofs.checksum.sum_of_session.Goals as goal
+
+pub loop-i-init : goal.loop-i-init
+loop-i-init c = (omega arith, omega arith)
+
+pub folded-sum-requires : goal.folded-sum-requires
+folded-sum-requires c = c.loop-i.invariant.1
+
+pub loop-i-preserved : goal.loop-i-preserved
+loop-i-preserved c = (omega arith, c.folded-sum.ensures)
+
+pub folded-with_tiles-requires : goal.folded-with_tiles-requires
+folded-with_tiles-requires c = c.loop-i.invariant.1
+
+pub returns : goal.returns
+returns c = c.folded.ensures
