@@ -9,11 +9,11 @@ use Rattle.seams.proofs.playing.play.Tie as tie
 
 -- `seams::playing::play` meets its contract, which is only that it ends: each turn takes four bytes of the story
 abbrev invariant-loop-at : tie.invariant-loop-at
-invariant-loop-at name tiles₀ count operations₀ journal₀ story session₀ at₀ tiles operations journal session at =
+invariant-loop-at out₀ name tiles₀ count operations₀ journal₀ story session₀ at₀ out tiles operations journal session at =
     (at ≤ length story) × (length tiles ≡ length tiles₀) × (length operations ≡ length operations₀) × (length journal ≡ length journal₀)
 
 abbrev decreases-loop-at : tie.decreases-loop-at
-decreases-loop-at name tiles₀ count operations₀ journal₀ story session₀ at₀ tiles operations journal session at =
+decreases-loop-at out₀ name tiles₀ count operations₀ journal₀ story session₀ at₀ out tiles operations journal session at =
     length story - at
 
 -- a story's length is a number of the machine
