@@ -13,9 +13,8 @@ after-requires c =
     subst (λ b. Movable c.args.tally c.args.spot.key b) (sym (ap (λ (x : Spot). x.there) c.requires.1)) (may_move c.requires.0 c.args.spot.key c.requires.2)
 
 pub returns : goal.returns
-returns c =
-    (
-      c.after.ensures ∙ ap (λ b. tally_after c.args.tally c.args.procedure c.args.spot.key b) (ap (λ (x : Spot). x.there) c.requires.1)
-          ∙ moves c.requires.0 c.args.spot.key c.requires.2 c.args.procedure,
-      c.affect.ensures.1,
-    )
+returns c = (
+  c.after.ensures ∙ ap (λ b. tally_after c.args.tally c.args.procedure c.args.spot.key b) (ap (λ (x : Spot). x.there) c.requires.1)
+      ∙ moves c.requires.0 c.args.spot.key c.requires.2 c.args.procedure,
+  c.affect.ensures.1,
+)
