@@ -1,4 +1,6 @@
 // A rectangle in one call: its shape is judged, its tiles are listed, and the list is carried out, whole or not at all.
+#![tactic(auto)]
+
 ghost use Rattle.std.specs.Prelude.{◌≡◌, ◌≤◌};
 ghost use Rattle.service.specs.Claims.{Serves};
 ghost use Rattle.service.specs.Told.{told};

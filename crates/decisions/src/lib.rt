@@ -1,4 +1,6 @@
 // What an open or the end of a job replies, decided before anything is written.
+#![tactic(auto)]
+
 ghost use Rattle.std.specs.Prelude.{false, ◌≡◌, eqb, pos};
 ghost use Rattle.service.specs.Calls.{end_refusals, open_refusals};
 ghost use Rattle.service.specs.Told.{decided, done, told};

@@ -1,8 +1,8 @@
 -- WHAT KEYS ARE: laws of addresses and their keys
 use Rattle.std.specs.Prelude.{cond, true, ◌↔◌, ◌≢◌, ◌≡◌, refl, ◌-◌, ◌<◌, ◌^◌, ◌≤◌, ℕ, eqb, ◌*ℤ◌, ◌+ℤ◌, pos, ℤ}
 use Rattle.std.proofs.Math.Option.{none, some}
-use Rattle.std.proofs.Common.{◌∙◌, ap, sym, arith, pow_pos}
-use Rattle.grid.proofs.Laws.Keys.{around_is, around_lt, column_back, has_key, key_above, key_valid, keyed_at, keyed_edition, no_edition, row_back, turned_back, turned_inside, valid_key, zoom_back}
+use Rattle.std.proofs.Common.{◌∙◌, ap, ap₂, sym, arith, pow_pos}
+use Rattle.grid.proofs.Laws.Keys.{around_is, around_lt, column_back, has_key, key_above, key_valid, keyed_at, keyed_edition, no_edition, row_back, turned_back, turned_inside, turns_only, valid_key, zoom_back}
 use Rattle.grid.specs.Limits.{highest_zoom, lowest_zoom, north_edition, south_edition}
 use Rattle.grid.specs.Tile.{Placed, Valid, address_call, address_of, around, column_in, is_edition, is_key, key_at, key_of, north_row, pack_key, placed, placed_at, row_in, turned_row, turns_in, turns_of, unplaced_by, zoom_in}
 use Rattle.grid.specs.declared.Address.{Address}
@@ -60,6 +60,31 @@ address_refused a known e i = cond (known i) (placed_at (e i) (turns_in a)) (unp
 
 pub address_unknown : (a : Address) → a.edition ≢ south_edition → a.edition ≢ north_edition → address_call a ≡ record { number = 14; key = 0; turns = pos 0 }
 address_unknown a s n = let other = (no_edition a.edition).1 (s, n) in ap (λ b. cond b (placed_at (key_of a) (turns_in a)) (unplaced_by 14)) other
+
+-- the turns are the one number with which column = turns × 2 ^ zoom + the key's column
+pub turns_exact : (a : Address) (k : ℕ) → key_of a ≡ some k
+    → (turns : ℤ) → (a.column ≡ turns *ℤ pos (2 ^ a.zoom) +ℤ pos (column_in k)) ↔ (turns ≡ (address_call a).turns)
+turns_exact a k e turns = (only, meets)
+  where
+    size : ℕ
+    size = 2 ^ a.zoom
+
+    column_is : column_in k ≡ around a.column size
+    column_is = (key_parts a.zoom a.column (north_row a.edition a.zoom a.row) k (keyed_edition a k e).1).1
+
+    told : (address_call a).turns ≡ turns_in a
+    told = ap (λ (p : Placed). p.turns) (address_given a k e)
+
+    only : a.column ≡ turns *ℤ pos size +ℤ pos (column_in k) → turns ≡ (address_call a).turns
+    only is =
+        sym (turns_only turns size (column_in k) (rw column_is (around_lt a.column size (pow_pos a.zoom))))
+        ∙ ap (λ c. turns_of c size) (sym is)
+        ∙ sym told
+
+    meets : turns ≡ (address_call a).turns → a.column ≡ turns *ℤ pos size +ℤ pos (column_in k)
+    meets is =
+        around_is a.column size (pow_pos a.zoom)
+        ∙ ap₂ (λ t x. t *ℤ pos size +ℤ pos x) (sym (is ∙ told)) (sym column_is)
 
 -- what it promises leaves one answer
 abbrev located : Placed → Located

@@ -1,6 +1,5 @@
 -- From turn to turn of the pass that decides, and what a list is told
-use Rattle.std.specs.Prelude.{Bool, ◌&&◌, false, not, true, ◌≡◌, ◌*◌, ◌+◌, ◌<◌, ◌≤◌, ℕ, eqb, get_or, length, take}
-use Rattle.std.proofs.Math.Bool.{and-false, and-true}
+use Rattle.std.specs.Prelude.{Bool, false, not, true, ◌≡◌, ◌*◌, ◌+◌, ◌<◌, ◌≤◌, ℕ, eqb, get_or, length, take}
 use mathlib.Core.List.{List, [], ◌∷◌, map}
 use Rattle.std.proofs.Math.Option.{Option, none, some}
 use Rattle.std.proofs.Common.{◌∙◌, ap₂, sym, length-take-le, le-ltb, lt-ltb}
@@ -9,13 +8,12 @@ use native.Mathlib.Omega.{arith}
 use Rattle.std.proofs.Math.Seq.{slice}
 use Rattle.std.proofs.lemmas.Bool.{eqb-false, not-true}
 use Rattle.lists.specs.Lists.{slice_end, slice_next}
-use Rattle.lists.specs.Truth.{both, both_false, one_if}
-use Rattle.strict.specs.Book.{Book, deleted, held_by, needs_place, places_taken}
+use Rattle.lists.specs.Truth.{both, one_if}
+use Rattle.strict.specs.Book.{Book, held_by, needs_place, places_taken}
 use Rattle.strict.specs.Commutativity.{Signature, holder}
 use Rattle.strict.specs.Operations.{Op, begun, kind}
 use Rattle.strict.specs.Tiles.{member}
 use Rattle.strict.specs.declared.Procedure.{Procedure}
-use Rattle.strict.specs.declared.Rule.TheVariants.{Alone, Together}
 use Rattle.strict.specs.declared.Rule.{Rule}
 use Rattle.service.specs.Admission.{open_marks}
 use Rattle.service.specs.Entry.{key_in, op_in}

@@ -1,4 +1,6 @@
 // A list of tiles judged as a whole, before anything is written.
+#![tactic(auto)]
+
 ghost use Rattle.std.specs.Prelude.{false, true, [], ◌≡◌, ◌+◌, ◌<◌, ◌≤◌, length, take};
 ghost use Rattle.lists.specs.Truth.{one_if};
 ghost use Rattle.service.specs.Limits.{most_tiles};

@@ -1,4 +1,6 @@
 // Starting a session, and one operation on it: each takes every input; its promise is one equation with service's specs/Calls.antt.
+#![tactic(auto)]
+
 ghost use Rattle.std.specs.Prelude.{◌≡◌};
 ghost use Rattle.service.specs.Calls.{empty_session, operation_call, start_call};
 ghost use Rattle.service.specs.World.{reported, world};

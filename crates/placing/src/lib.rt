@@ -1,4 +1,6 @@
 // The operations on a list of keys: judged as a whole before a byte is written, and then carried out, with one pass over the tiles.
+#![tactic(auto)]
+
 ghost use Rattle.std.specs.Prelude.{◌≡◌, ◌≤◌, length, take};
 ghost use Rattle.strict.specs.Tiles.{Ascending};
 ghost use Rattle.service.specs.World.{reported, world};

@@ -1,14 +1,10 @@
--- HOW FAR ROUND: what the turns are, and who tells them
-use Rattle.std.specs.Prelude.{Bool, cond, false, true, List, [], ◌∷◌, ◌↔◌, ◌≡◌, refl, ◌^◌, ℕ, eqb, ◌*ℤ◌, ◌+ℤ◌, pos, ℤ}
+-- HOW FAR ROUND: who tells the turns
+use Rattle.std.specs.Prelude.{Bool, cond, false, true, List, [], ◌∷◌, ◌≡◌, refl, ℕ, eqb, pos, ℤ}
 use Rattle.std.proofs.Math.Option.{Option, none, some}
-use Rattle.std.proofs.Common.{◌∙◌, ap, ap₂, sym, pow_pos}
 use Rattle.lists.specs.Lists.{All}
 use Rattle.strict.specs.Commutativity.{Signature}
 use Rattle.strict.specs.declared.Rule.{Rule}
-use Rattle.grid.proofs.Addresses.{address_given, key_parts}
-use Rattle.grid.proofs.Laws.Keys.{around_is, around_lt, keyed_edition, turns_only}
-use Rattle.grid.specs.Tile.{Placed, address_call, around, column_in, key_of, north_row, turns_in, turns_of}
-use Rattle.grid.specs.declared.Address.{Address}
+use Rattle.grid.specs.Tile.{address_call}
 use Rattle.service.specs.Admission.{answer_to}
 use Rattle.service.specs.Calls.{concluded, start_call, start_refusals}
 use Rattle.service.specs.Claims.{holder_in}
@@ -18,31 +14,6 @@ use Rattle.service.proofs.Laws.Telling.{Numbered}
 use Rattle.service.specs.Told.{Refusal, bare, decided, done, refuse_held}
 use Rattle.service.specs.World.{World, state}
 use Rattle.service.specs.declared.Told.{Told}
-
--- the turns are the one number with which column = turns × 2 ^ zoom + the key's column
-pub turns_exact : (a : Address) (k : ℕ) → key_of a ≡ some k
-    → (turns : ℤ) → (a.column ≡ turns *ℤ pos (2 ^ a.zoom) +ℤ pos (column_in k)) ↔ (turns ≡ (address_call a).turns)
-turns_exact a k e turns = (only, meets)
-  where
-    size : ℕ
-    size = 2 ^ a.zoom
-
-    column_is : column_in k ≡ around a.column size
-    column_is = (key_parts a.zoom a.column (north_row a.edition a.zoom a.row) k (keyed_edition a k e).1).1
-
-    told : (address_call a).turns ≡ turns_in a
-    told = ap (λ (p : Placed). p.turns) (address_given a k e)
-
-    only : a.column ≡ turns *ℤ pos size +ℤ pos (column_in k) → turns ≡ (address_call a).turns
-    only is =
-        sym (turns_only turns size (column_in k) (rw column_is (around_lt a.column size (pow_pos a.zoom))))
-        ∙ ap (λ c. turns_of c size) (sym is)
-        ∙ sym told
-
-    meets : turns ≡ (address_call a).turns → a.column ≡ turns *ℤ pos size +ℤ pos (column_in k)
-    meets is =
-        around_is a.column size (pow_pos a.zoom)
-        ∙ ap₂ (λ t x. t *ℤ pos size +ℤ pos x) (sym (is ∙ told)) (sym column_is)
 
 -- a reply that has these turns where it is done, and none where it is refused
 abbrev pub TellsTurns : Told → ℤ → ℤ → Type 0

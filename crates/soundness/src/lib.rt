@@ -1,4 +1,4 @@
-// Whether lent tables are sound: service's `tabledB` and `soundB`, computed in an order in which each test may rely on those before it.
+// Whether lent tables are sound: service's `tabled_B` and `sound_B`, computed in an order in which each test may rely on those before it.
 #![tactic(auto)]
 
 ghost use Rattle.std.specs.Prelude.{[], ◌≡◌, true, ◌≤◌, length, take};

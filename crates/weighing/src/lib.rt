@@ -1,4 +1,6 @@
 // What an operation comes to, decided before anything is written.
+#![tactic(auto)]
+
 ghost use Rattle.service.specs.Sound.{Sound};
 ghost use Rattle.service.specs.World.{world};
 ghost use Rattle.weighing.specs.Decides.{Decides, Judges};

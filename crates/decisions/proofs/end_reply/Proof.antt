@@ -4,8 +4,6 @@ use mathlib.Core.Path.{◌≡◌}
 use native.Mathlib.Omega.{arith}
 use lib.IntN.{pos}
 use borrow.Author.Rules.{rules}
-use borrow.Author.Tests.{not-false, not-true}
-use Rattle.lists.specs.Truth.{test_fails, test_passes}
 use Rattle.service.specs.Sound.{sound_B}
 use Rattle.service.specs.Told.{done}
 use Rattle.service.specs.World.{world}

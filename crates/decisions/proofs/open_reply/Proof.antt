@@ -4,7 +4,6 @@ use mathlib.Core.Path.{◌≡◌, sym}
 use native.Mathlib.Omega.{arith}
 use lib.IntN.{pos}
 use borrow.Author.Rules.{rules}
-use Rattle.lists.specs.Truth.{test_fails, test_passes}
 use Rattle.service.proofs.Laws.Soundness.{sound_is}
 use Rattle.service.specs.Sound.{sound_B}
 use Rattle.service.specs.Told.{done}

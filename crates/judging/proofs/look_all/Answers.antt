@@ -1,6 +1,6 @@
 -- `judging::look_all` meets its contract: what is left at each turn, with what was counted, is what there was at the first
 use mathlib.Core.Path.{◌≡◌}
-use Prim.Native.Nat.{◌+◌, ◌-◌}
+use Prim.Native.Nat.{◌+◌}
 use native.Mathlib.Omega.{arith}
 use lib.ListN.{take}
 use Rattle.lists.specs.Truth.{one_if}

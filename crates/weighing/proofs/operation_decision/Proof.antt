@@ -3,7 +3,6 @@ use mathlib.Core.Bool.{true}
 use mathlib.Core.Path.{◌∙◌, ◌≡◌, ap, sym}
 use lib.Dec.{eqb}
 use borrow.Author.Rules.{rules}
-use Rattle.lists.specs.Truth.{test_fails, test_passes}
 use Rattle.grid.specs.Tile.{placed}
 use Rattle.service.specs.Told.{told}
 use Rattle.service.specs.World.{World, world}
