@@ -1,5 +1,5 @@
 -- The tiles of each level, counted
-use Rattle.std.specs.Prelude.{Bool, ◌&&◌, List, [], ◌∷◌, ◌+◌, suc, zero, ℕ, eqb, leb}
+use Rattle.std.specs.Prelude.{Bool, ◌&&◌, List, [], ◌∷◌, ◌+◌, ◌-◌, suc, zero, ℕ, eqb, leb}
 use Rattle.lists.specs.Truth.{one_if}
 use Rattle.grid.specs.Limits.{highest_zoom, level_count, lowest_zoom}
 use Rattle.grid.specs.Tile.{zoom_in}
@@ -17,6 +17,10 @@ levels_from first (suc n) t = tiles_at first t ∷ levels_from (suc first) n t
 -- and of the eleven levels
 unfoldable pub levels_of : List ℕ → List ℕ
 levels_of t = levels_from lowest_zoom level_count t
+
+-- where the count of a key's level stands
+abbrev pub level_place : ℕ → ℕ
+level_place k = zoom_in k - lowest_zoom
 
 abbrev pub total : List ℕ → ℕ
 total [] = 0

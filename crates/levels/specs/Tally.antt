@@ -2,8 +2,7 @@
 use Rattle.std.specs.Prelude.{Bool, cond, true, List, ◌≡◌, ◌+◌, ◌-◌, ◌<◌, ◌≤◌, ℕ, get_or, length, set}
 use Rattle.strict.specs.declared.Procedure.TheVariants.{Del, Ins, Mem}
 use Rattle.strict.specs.declared.Procedure.{Procedure}
-use Rattle.grid.proofs.Laws.Counting.{level_place}
-use Rattle.grid.specs.Levels.{levels_of}
+use Rattle.grid.specs.Levels.{level_place, levels_of}
 use Rattle.grid.specs.Tile.{is_key}
 use Rattle.service.specs.Limits.{most_tiles}
 use Rattle.levels.specs.declared.Tally.{Tally}

@@ -3,8 +3,7 @@
 
 ghost use Rattle.std.specs.Prelude.{true, ◌≡◌, ◌<◌, ◌≤◌, get_or, length, take};
 ghost use Rattle.lists.specs.Lists.{All, same_numbers};
-ghost use Rattle.grid.proofs.Laws.Counting.{level_place};
-ghost use Rattle.grid.specs.Levels.{levels_of};
+ghost use Rattle.grid.specs.Levels.{level_place, levels_of};
 ghost use Rattle.grid.specs.Tile.{is_key};
 ghost use Rattle.service.specs.Limits.{most_tiles};
 ghost use Rattle.search.specs.Table.{TileTable};

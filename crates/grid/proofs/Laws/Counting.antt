@@ -9,7 +9,7 @@ use Rattle.lists.specs.Truth.{Same, and_both, both, by_cond, eqb_same, never, on
 use Rattle.strict.proofs.Laws.Members.{above_ascending, member_ge, not_own}
 use Rattle.strict.specs.Tiles.{Ascending, delete, insert_tile, member}
 use Rattle.grid.proofs.Laws.Keys.{parts}
-use Rattle.grid.specs.Levels.{is_zoom, levels_from, levels_of, tiles_at, total}
+use Rattle.grid.specs.Levels.{is_zoom, level_place, levels_from, levels_of, tiles_at, total}
 use Rattle.grid.specs.Limits.{highest_zoom, level_count, lowest_zoom}
 use Rattle.grid.specs.Tile.{is_key, zoom_in}
 
@@ -126,9 +126,6 @@ levels_total (k ∷ ks) h =
     total_one lowest_zoom level_count k ks (omega arith) (omega arith) ∙ ap suc (levels_total ks h.1)
 
 -- A TILE COMES OR GOES: the count of its level, at its place, moves by one
-abbrev pub level_place : ℕ → ℕ
-level_place k = zoom_in k - lowest_zoom
-
 module _ (k : ℕ) (valid : is_key k ≡ true) (t : List ℕ) where
   pub place_small : level_place k < level_count
   place_small = let a = (parts k valid).low in let b = (parts k valid).high in omega arith
