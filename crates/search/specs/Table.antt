@@ -1,5 +1,5 @@
 -- A tile table, a list of numbers of which the first `count` are used, and the place of a key in it
-use Rattle.std.specs.Prelude.{cond, List, [], ◌∷◌, ◌≡◌, ◌+◌, ◌≤◌, suc, ℕ, ltb, length, take}
+use Rattle.std.specs.Prelude.{cond, List, [], ◌∷◌, ◌≡◌, ◌≤◌, suc, ℕ, ltb, length, take}
 use Rattle.lists.specs.Lists.{padded}
 use Rattle.strict.specs.Tiles.{Ascending}
 
@@ -13,9 +13,3 @@ pub record TileTable (l : List ℕ) (count : ℕ) : Type 0 where
 abbrev pub position_of : ℕ → List ℕ → ℕ
 position_of k [] = 0
 position_of k (x ∷ xs) = cond (ltb x k) (suc (position_of k xs)) 0
-
--- the place of k in s is from `low` to `low + size`, which is within the count
-pub record Between (k : ℕ) (s : List ℕ) (count low size : ℕ) : Type 0 where
-  pub from : low ≤ position_of k s
-  pub to : position_of k s ≤ low + size
-  pub inside : low + size ≤ count
