@@ -13,8 +13,7 @@ use Rattle.lists.specs.Lists.{slice_end, slice_next}
 use Rattle.strict.proofs.Laws.Members.{above_less}
 use Rattle.strict.specs.Operations.{clear}
 use Rattle.strict.specs.Tiles.{Above, Ascending, delete}
-use Rattle.runs.specs.Runs.{Kept, Met, apply_all}
-use Rattle.runs.specs.declared.Meets.TheVariants.{Apart, Below, Own}
+use Rattle.runs.specs.Runs.{Kept, apply_all}
 use Rattle.runs.proofs.Ascents.{ascending_drop, behind}
 
 -- a key below all is not there
@@ -28,8 +27,8 @@ delete_above k (x ∷ s) a =
 clear_below : (k x : ℕ) (ks xs : List ℕ) → k < x → Above x xs → apply_all clear (k ∷ ks) (x ∷ xs) ≡ apply_all clear ks (x ∷ xs)
 clear_below k x ks xs h a = ap (apply_all clear ks) (delete_above k (x ∷ xs) (h, a))
 
-clear_own : (k x : ℕ) (ks xs : List ℕ) → k ≡ x → Above x xs → apply_all clear (k ∷ ks) (x ∷ xs) ≡ apply_all clear ks xs
-clear_own k x ks xs e a = rw (eq-eqb k x e) (ap (apply_all clear ks) (delete_above k xs (rw e a)))
+clear_own : (k x : ℕ) (ks xs : List ℕ) → k ≡ x → apply_all clear (k ∷ ks) (x ∷ xs) ≡ apply_all clear (k ∷ ks) xs
+clear_own k x ks xs e = rw (eq-eqb k x e)
 
 clear_apart : (x : ℕ) (ks xs : List ℕ) → Above x ks → apply_all clear ks (x ∷ xs) ≡ x ∷ apply_all clear ks xs
 clear_apart x [] xs a = refl
@@ -92,29 +91,32 @@ module _ {ks t₀ : List ℕ} {count : ℕ} (fits : count ≤ length t₀) where
       first_key : at < length ks → drop at ks ≡ get_or ks at 0 ∷ drop (at + 1) ks
       first_key h = rw add-one (drop-cons ks at 0 h)
 
-      pub passes : Met ks at tile Below → Keeping ks t₀ count t i (at + 1) left
-      passes m =
+      -- a key below the tile is passed
+      pub passes : at < length ks → get_or ks at 0 < tile → Keeping ks t₀ count t i (at + 1) left
+      passes more lower =
           record {
             left_fits = k.left_fits;
             within = k.within;
-            keys_fit = let h = m.0 in omega arith;
+            keys_fit = omega arith;
             same_length = k.same_length;
             same_ahead = k.same_ahead;
-            whole = ap (λ r. take left t ++ r) (sym (rw (ahead, first_key m.0) (clear_below (get_or ks at 0) tile (drop (at + 1) ks) (slice (i + 1) count t₀) m.1 above))) ∙ k.whole;
+            whole = ap (λ r. take left t ++ r) (sym (rw (ahead, first_key more) (clear_below (get_or ks at 0) tile (drop (at + 1) ks) (slice (i + 1) count t₀) lower above))) ∙ k.whole;
           }
 
-      pub goes : Met ks at tile Own → Keeping ks t₀ count t (i + 1) (at + 1) left
-      goes m =
+      -- a tile that is the next key goes
+      pub goes : at < length ks → get_or ks at 0 ≡ tile → Keeping ks t₀ count t (i + 1) at left
+      goes more same =
           record {
             left_fits = let h = k.left_fits in omega arith;
             within = omega arith;
-            keys_fit = let h = m.0 in omega arith;
+            keys_fit = k.keys_fit;
             same_length = k.same_length;
             same_ahead = next_ahead;
-            whole = ap (λ r. take left t ++ r) (sym (rw (ahead, first_key m.0) (clear_own (get_or ks at 0) tile (drop (at + 1) ks) (slice (i + 1) count t₀) m.1 above))) ∙ k.whole;
+            whole = ap (λ r. take left t ++ r) (sym (rw (ahead, first_key more) (clear_own (get_or ks at 0) tile (drop (at + 1) ks) (slice (i + 1) count t₀) same))) ∙ k.whole;
           }
 
-      above_keys : Met ks at tile Apart → Above tile (drop at ks)
+      -- and any other stays
+      above_keys : (at < length ks → tile < get_or ks at 0) → Above tile (drop at ks)
       above_keys m = go (ltb at (length ks)) refl
         where
           go : (b : Bool) → ltb at (length ks) ≡ b → Above tile (drop at ks)
@@ -123,7 +125,7 @@ module _ {ks t₀ : List ℕ} {count : ℕ} (fits : count ≤ length t₀) where
               rw (first_key h) (m h, subst Ascending (first_key h) (ascending_drop at ks ascends))
           go false e = rw (drop_of_length-le ks {i = at} (ltb-false at (length ks) e)) tt
 
-      pub stays : Met ks at tile Apart → Keeping ks t₀ count (set t left tile) (i + 1) at (left + 1)
+      pub stays : (at < length ks → tile < get_or ks at 0) → Keeping ks t₀ count (set t left tile) (i + 1) at (left + 1)
       stays m =
           let l = k.left_fits in
           let places = k.same_length in

@@ -1,11 +1,12 @@
 -- The pass that puts a run in, from the back: what is put in so far stands behind `place`
 use mathlib.Core.List.{List, [], ◌++◌, ◌∷◌}
 use mathlib.Core.Path.{◌∙◌, ◌≡◌, ap, sym}
-use Prim.Native.Nat.{◌+◌, ◌-◌, ◌<◌, ◌≤◌, suc, zero, ℕ}
+use Prim.Native.Nat.{◌+◌, ◌-◌, ◌<◌, ◌≤◌, suc, ℕ}
 use native.Mathlib.Omega.{arith}
 use lib.Dec.{eqb, ltb}
 use lib.ListN.{drop, length, length-append, length-set, replicate, set, take, take-append-drop}
-use lib.Seq.{append_snoc, drop_at, drop-drop, length-take-le, set_split, take-length, take-set-le, take-take}
+use lib.Seq.{append_snoc, drop-drop, length-take-le, take-length, take-set-le, take-take}
+use Rattle.std.proofs.lemmas.List.{drop-replicate, drop-set}
 use Rattle.lists.specs.Lists.{padded}
 use Rattle.lists.specs.Truth.{by_cond}
 use Rattle.strict.specs.Operations.{put}
@@ -39,10 +40,6 @@ pub record Merging (goal ks t : List ℕ) (old new place : ℕ) : Type 0 where
   pub ascends : Ascending (take old t)
   pub place_is : place ≡ length (merged ks new t old)
   pub whole : merged ks new t old ++ drop place t ≡ goal
-
--- behind a place that was written
-drop_set : (l : List ℕ) (i v : ℕ) → i < length l → drop i (set l i v) ≡ v ∷ drop (suc i) l
-drop_set l i v h = ap (drop i) (set_split l i v h) ∙ drop_at (take i l) (v ∷ drop (suc i) l) i (length-take-le i l (omega arith))
 
 module _ {ks : List ℕ} where
   pub starts : {t : List ℕ} {count left : ℕ} → TileTable t count → left ≡ length (apply_all put ks (take count t)) → left ≤ length t
@@ -87,7 +84,7 @@ module _ {ks : List ℕ} where
           let less = g.old_less in
           let same : take r.old (set t (place - 1) r.key) ≡ take r.old t = take-set-le r.old t (place - 1) r.key (omega arith) in
           let at : place - 1 ≡ length rest = omega arith in
-          let next : suc (place - 1) ≡ place = omega arith in
+          let next : place - 1 + 1 ≡ place = omega arith in
           record {
             old_fits = rw (length-set t (place - 1) r.key) (omega arith);
             new_fits = let x = m.new_fits in let y = g.new_less in omega arith;
@@ -95,16 +92,11 @@ module _ {ks : List ℕ} where
             ascends = rw (same, ← take-take r.old old t less) (ascending_take r.old (take old t) m.ascends);
             place_is = rw same at;
             whole =
-                rw (same, drop_set t (place - 1) r.key (omega arith), next)
+                rw (same, drop-set t (place - 1) r.key (omega arith), next)
                 (sym (append_snoc rest r.key (drop place t)) ∙ ap (λ l. l ++ drop place t) (sym g.last) ∙ m.whole);
           }
 
 -- with nothing but 0 behind it
-drop_replicate : (m n z : ℕ) → drop m (replicate n z) ≡ replicate (n - m) z
-drop_replicate zero n z = let e : n ≡ n - 0 = omega arith in ap (λ x. replicate x z) e
-drop_replicate (suc m) zero z = let e : 0 ≡ 0 - suc m = omega arith in ap (λ x. replicate x z) e
-drop_replicate (suc m) (suc n) z = let e : n - m ≡ suc n - suc m = omega arith in drop_replicate m n z ∙ ap (λ x. replicate x z) e
-
 pub padded_goal : {t : List ℕ} {count left : ℕ} (l : List ℕ) → TileTable t count → left ≡ length l → count ≤ left → left ≤ length t
     → l ++ drop left t ≡ padded (length t) l
 padded_goal {t} {count} {left} l table is more fits =
@@ -112,7 +104,7 @@ padded_goal {t} {count} {left} l table is more fits =
     (ap (λ n. drop n t) further
     ∙ sym (drop-drop (left - count) count t)
     ∙ ap (drop (left - count)) (rest_zeros table)
-    ∙ drop_replicate (left - count) (length t - count) 0
+    ∙ drop-replicate {X = ℕ} (left - count) (length t - count) 0
     ∙ ap (λ n. replicate n 0) zeros)
   where
     further : left ≡ count + (left - count)

@@ -1,10 +1,8 @@
 -- A list of keys put in or taken out one after another, and what the passes that do it at once come to
-use Rattle.std.specs.Prelude.{List, [], ◌++◌, ◌∷◌, ◌≡◌, ◌+◌, ◌-◌, ◌<◌, ◌≤◌, ℕ, drop, get_or, length, take}
+use Rattle.std.specs.Prelude.{List, [], ◌++◌, ◌∷◌, ◌≡◌, ◌+◌, ◌-◌, ◌<◌, ◌≤◌, ℕ, drop, length, take}
 use Rattle.strict.specs.Operations.{Step, apply, put}
 use Rattle.strict.specs.Tiles.{Ascending}
 use Rattle.runs.specs.declared.Last.{Last}
-use Rattle.runs.specs.declared.Meets.TheVariants.{Apart, Below, Own}
-use Rattle.runs.specs.declared.Meets.{Meets}
 
 -- a step on each key in turn
 abbrev pub apply_all : Step → List ℕ → List ℕ → List ℕ
@@ -23,12 +21,6 @@ pub record Greatest (t ks : List ℕ) (old new : ℕ) (r : Last) : Type 0 where
   pub new_less : r.new ≤ new
   pub fewer : r.old + r.new < old + new
   pub last : apply_all put (take new ks) (take old t) ≡ apply_all put (take r.new ks) (take r.old t) ++ (r.key ∷ [])
-
--- the key at the place `at` is below x, is x, or is above it or not there
-abbrev pub Met : List ℕ → ℕ → ℕ → Meets → Type 0
-Met ks at x Below = (at < length ks) × (get_or ks at 0 < x)
-Met ks at x Own = (at < length ks) × (get_or ks at 0 ≡ x)
-Met ks at x Apart = at < length ks → x < get_or ks at 0
 
 -- `left` tiles are kept, in front of t', and behind `count` nothing has moved
 pub record Kept (kept t : List ℕ) (count : ℕ) (t' : List ℕ) (left : ℕ) : Type 0 where

@@ -7,7 +7,7 @@ ghost use Rattle.strict.specs.Operations as report;
 ghost use Rattle.strict.specs.Tiles.{Ascending};
 ghost use Rattle.search.specs.Table.{TileTable, position_of};
 ghost use Rattle.tiles.specs.Table.{spot_of};
-ghost use Rattle.runs.specs.Runs.{Greatest, Kept, Met, Run, apply_all};
+ghost use Rattle.runs.specs.Runs.{Greatest, Kept, Run, apply_all};
 
 use strict::Procedure;
 use tiles::Spot;
@@ -20,50 +20,28 @@ pub struct Last {
     pub new: usize,
 }
 
-// How the key at hand meets a tile.
-#[derive(Clone, Copy)]
-pub enum Meets {
-    Below,
-    Own,
-    Apart,
-}
-
 // Where the run of ascending keys that begins at `from` ends, or earlier.
 pub fn run_end(keys: &[u32], from: usize, n: usize) -> usize
     requires { (from < n) × (n ≤ length keys.now) }
     ensures { Run keys.now from n result }
 {
-    let mut end = from + 1;
-    while end < n {
+    for end in from + 1..n {
         if keys[end] <= keys[end - 1] {
             return end;
         }
-        end += 1;
     }
-    end
+    n
 }
 
 // A place where `key` may belong: `near`, or the one behind it if the tile at `near` is below the key.
 fn guess(tiles: &[u32], count: usize, near: usize, key: u32) -> usize
     requires { TileTable tiles.now count }
 {
-    if near < count {
-        if tiles[near] < key {
-            return near + 1;
-        }
+    if near < count && tiles[near] < key {
+        near + 1
+    } else {
+        near
     }
-    near
-}
-
-// Whether a tile stands at the place `at`, and is below `key`.
-fn is_below(tiles: &[u32], count: usize, at: usize, key: u32) -> bool
-    requires { count ≤ length tiles.now }
-    ensures { result ≡ false → at < count → key ≤ get_or tiles.now at 0 }
-{
-    if count <= at {
-        return false;
-    }
-    tiles[at] < key
 }
 
 // Whether `key` belongs to the place `at`: the tile there is not below it, and the one before is.
@@ -71,16 +49,7 @@ fn belongs(tiles: &[u32], count: usize, at: usize, key: u32) -> bool
     requires { TileTable tiles.now count }
     ensures { result ≡ true → at ≡ position_of key (take count tiles.now) }
 {
-    if count < at {
-        return false;
-    }
-    if is_below(tiles, count, at, key) {
-        return false;
-    }
-    if at == 0 {
-        return true;
-    }
-    tiles[at - 1] < key
+    at <= count && (at == count || key <= tiles[at]) && (at == 0 || tiles[at - 1] < key)
 }
 
 // Looks for a key, first at the place `near` and the one behind it: the keys of a run stand close together.
@@ -89,20 +58,10 @@ pub fn find_near(tiles: &[u32], count: usize, near: usize, key: u32) -> Spot
     ensures { result ≡ spot_of key (take count tiles.now) }
 {
     let at = guess(tiles, count, near, key);
-    if !belongs(tiles, count, at, key) {
-        return tiles::find(tiles, count, key);
-    }
-    if count <= at {
-        return Spot {
-            key,
-            at,
-            there: false,
-        };
-    }
-    Spot {
-        key,
-        at,
-        there: tiles[at] == key,
+    if belongs(tiles, count, at, key) {
+        tiles::spot_at(tiles, count, at, key)
+    } else {
+        tiles::find(tiles, count, key)
     }
 }
 
@@ -112,32 +71,22 @@ fn last_of(tiles: &[u32], old: usize, keys: &[u32], new: usize) -> Last
     ensures { Greatest tiles.now keys.now old new result }
 {
     let key = keys[new - 1];
-    if old == 0 {
-        return Last {
-            key,
-            old,
-            new: new - 1,
-        };
-    }
-    let tile = tiles[old - 1];
-    if tile < key {
-        return Last {
-            key,
-            old,
-            new: new - 1,
-        };
-    }
-    if tile == key {
-        return Last {
+    match tiles[..old].last() {
+        Some(&tile) if key < tile => Last {
+            key: tile,
+            old: old - 1,
+            new,
+        },
+        Some(&tile) if key == tile => Last {
             key,
             old: old - 1,
             new: new - 1,
-        };
-    }
-    Last {
-        key: tile,
-        old: old - 1,
-        new,
+        },
+        _ => Last {
+            key,
+            old,
+            new: new - 1,
+        },
     }
 }
 
@@ -150,6 +99,7 @@ fn put_run(tiles: &mut [u32], count: usize, keys: &[u32], left: usize)
     let mut old = count;
     let mut new = keys.len();
     let mut place = left;
+    // The keys end this pass, and not the places: a `for` over the places would go on to the first of the tiles, which stay where they are.
     while 0 < new {
         let last = last_of(tiles, old, keys, new);
         place -= 1;
@@ -159,45 +109,21 @@ fn put_run(tiles: &mut [u32], count: usize, keys: &[u32], left: usize)
     }
 }
 
-// How the key at the place `at`, if there is one, meets a tile.
-fn meeting(keys: &[u32], at: usize, tile: u32) -> Meets
-    ensures { Met keys.now at tile result }
-{
-    if keys.len() <= at {
-        return Meets::Apart;
-    }
-    if keys[at] < tile {
-        return Meets::Below;
-    }
-    if keys[at] == tile {
-        return Meets::Own;
-    }
-    Meets::Apart
-}
-
 // Moves the tiles that are not in the run to the front, and answers how many they are.
 fn keep_others(tiles: &mut [u32], count: usize, keys: &[u32]) -> usize
     requires { TileTable tiles.old count × Ascending keys.now }
     ensures { Kept (apply_all report.clear keys.now (take count tiles.old)) tiles.old count tiles.new result }
 {
-    let mut i: usize = 0;
-    let mut at: usize = 0;
-    let mut left: usize = 0;
-    while i < count {
+    let mut at = 0;
+    let mut left = 0;
+    for i in 0..count {
         let tile = tiles[i];
-        match meeting(keys, at, tile) {
-            Meets::Below => {
-                at += 1;
-            }
-            Meets::Own => {
-                at += 1;
-                i += 1;
-            }
-            Meets::Apart => {
-                tiles[left] = tile;
-                left += 1;
-                i += 1;
-            }
+        while at < keys.len() && keys[at] < tile {
+            at += 1;
+        }
+        if at == keys.len() || tile < keys[at] {
+            tiles[left] = tile;
+            left += 1;
         }
     }
     left
@@ -208,11 +134,7 @@ pub fn wipe(tiles: &mut [u32], from: usize, to: usize)
     requires { (from ≤ to) × (to ≤ length tiles.old) }
     ensures { tiles.new ≡ take from tiles.old ++ (replicate (to - from) 0 ++ drop to tiles.old) }
 {
-    let mut place = from;
-    while place < to {
-        tiles[place] = 0;
-        place += 1;
-    }
+    tiles[from..to].fill(0);
 }
 
 // Takes a run of keys out, from the first to the last: each tile is moved once.

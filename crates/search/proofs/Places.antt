@@ -12,7 +12,8 @@ above_at n i [] a l = absurd (omega arith)
 above_at n zero (x ∷ xs) a l = a.0
 above_at n (suc i) (x ∷ xs) a l = above_at n i xs (above_less xs a.0 a.1) (omega arith)
 
-rising : (s : List ℕ) → Ascending s → (i j : ℕ) → i ≤ j → j < length s → get_or s i 0 ≤ get_or s j 0
+-- the elements of an ascending list rise
+pub rising : (s : List ℕ) → Ascending s → (i j : ℕ) → i ≤ j → j < length s → get_or s i 0 ≤ get_or s j 0
 rising [] asc i j h l = absurd (omega arith)
 rising (x ∷ xs) asc zero zero h l = omega arith
 rising (x ∷ xs) asc zero (suc j) h l = let first = above_at x j xs asc (omega arith) in omega arith
@@ -23,7 +24,7 @@ pub ascending_parted : (k : ℕ) (s : List ℕ) → Ascending s → IsPartitione
 ascending_parted k s asc = IsPartitionedBy-ltb (λ y. y) s k (IsNonDecreasingBy-from_default (λ y. y) s 0 (rising s asc))
 
 -- an index with all before it below k, and none from it on
-place_at : (k : ℕ) (s : List ℕ) (i : ℕ) → i ≤ length s → ((j : ℕ) → j < i → get_or s j 0 < k) → (i < length s → k ≤ get_or s i 0) → i ≡ position_of k s
+pub place_at : (k : ℕ) (s : List ℕ) (i : ℕ) → i ≤ length s → ((j : ℕ) → j < i → get_or s j 0 < k) → (i < length s → k ≤ get_or s i 0) → i ≡ position_of k s
 place_at k [] i l below behind = omega arith
 place_at k (x ∷ xs) zero l below behind = rw (le-ltb x k (behind (omega arith))) refl
 place_at k (x ∷ xs) (suc i) l below behind =

@@ -1,21 +1,13 @@
--- `runs::belongs` meets its contract: a place between the tile before it and the tile there is that of the key
-use mathlib.Core.Path.{sym}
-use native.Mathlib.Omega.{arith}
-use borrow.Author.Tests.{ltb-true}
-use Rattle.lists.specs.Truth.{never}
+-- A place between the tile before it and the tile there is that of the key
+use Rattle.std.proofs.Common.{◌∙◌, arith, leb-true, ltb-true, sym}
 use Rattle.runs.proofs.Spots.{place_known}
+use Rattle.runs.proofs.belongs.Goals.{else-at-count, then-at-count+else-at-count-2, then-at-count+then-at-count-2}
 use Rattle.runs.proofs.belongs.Goals as goal
 
-pub returns-then-count-at : goal.returns-then-count-at
-returns-then-count-at c = λ e. never (sym e)
-
-pub returns-then-is_below : goal.returns-then-is_below
-returns-then-is_below c = λ e. never (sym e)
-
-pub returns-then-at-eq0 : goal.returns-then-at-eq0
-returns-then-at-eq0 c = λ _.
-    place_known c.args.key c.requires c.args.at (omega arith) (λ h. absurd (omega arith)) (c.is_below.ensures c.if-is_below.false)
-
-pub returns : goal.returns
-returns c = λ e.
-    place_known c.args.key c.requires c.args.at (omega arith) (λ h. ltb-true _ _ e) (c.is_below.ensures c.if-is_below.false)
+pub returns-else-at-eq0 : goal.returns-else-at-eq0
+returns-else-at-eq0 c = λ e.
+    elim c.if-at-count.branch [
+      | then-at-count+then-at-count-2 w ↦ place_known c.args.key c.requires c.args.at (omega arith) (λ h. ltb-true _ _ e) (λ h. absurd (omega arith))
+      | then-at-count+else-at-count-2 w ↦ place_known c.args.key c.requires c.args.at (omega arith) (λ h. ltb-true _ _ e) (λ h. leb-true _ _ (sym w.value-is ∙ c.if-key-tiles.true))
+      | else-at-count w ↦ absurd (omega (arith, leb-true _ _ (sym w.value-is ∙ c.if-key-tiles.true)))
+    ]

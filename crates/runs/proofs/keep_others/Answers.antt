@@ -1,34 +1,26 @@
--- `runs::keep_others` meets its contract: what is kept, with what is left to keep of the tiles ahead, is the same at each turn
-use mathlib.Core.Path.{subst}
-use native.Mathlib.Omega.{arith}
-use lib.ListN.{get_or}
-use Rattle.runs.proofs.Keeping.{ends, goes, passes, starts, stays}
-use Rattle.runs.specs.Runs.{Met}
+-- What is kept, with what is left to keep of the tiles ahead, is the same at each turn
+use Rattle.std.specs.Prelude.{◌≤◌, ◌<◌, get_or, length}
+use Rattle.std.proofs.Common.{arith}
+use Rattle.runs.proofs.Keeping.{ends, goes, passes, stays}
+use Rattle.runs.proofs.keep_others.Goals.{else-at-keys+else-tile-keys, else-loop-at-test, then-at-keys, then-at-keys-via-else-at-keys+then-tile-keys, then-at-keys-via-then-at-keys, then-loop-at-test+else-keys-at}
 use Rattle.runs.proofs.keep_others.Goals as goal
 
-pub loop-i-init : goal.loop-i-init
-loop-i-init c = starts c.requires.0.fits
-
-pub loop-i-preserved-in-Below : goal.loop-i-preserved-in-Below
-loop-i-preserved-in-Below c =
-    let l = c.loop-i in
-    passes c.requires.0.fits c.requires.1 c.requires.0.ascending l.invariant (omega arith)
-    (subst (Met c.args.keys.now l.at (get_or l.tiles l.i 0)) c.in-Below.is c.meeting.ensures)
-
-pub loop-i-preserved-in-Own : goal.loop-i-preserved-in-Own
-loop-i-preserved-in-Own c =
-    let l = c.loop-i in
-    goes c.requires.0.fits c.requires.1 c.requires.0.ascending l.invariant (omega arith)
-    (subst (Met c.args.keys.now l.at (get_or l.tiles l.i 0)) c.in-Own.is c.meeting.ensures)
+pub loop-at-preserved : goal.loop-at-preserved
+loop-at-preserved c =
+    passes c.requires.0.fits c.requires.1 c.requires.0.ascending c.loop-at.invariant (omega arith) (omega arith) (omega arith)
 
 pub loop-i-preserved : goal.loop-i-preserved
 loop-i-preserved c =
-    let l = c.loop-i in
-    stays c.requires.0.fits c.requires.1 c.requires.0.ascending l.invariant (omega arith)
-    (subst (Met c.args.keys.now l.at (get_or l.tiles l.i 0)) c.in-Apart.is c.meeting.ensures)
-
-pub shape_of-tiles : goal.shape_of-tiles
-shape_of-tiles c = c.loop-i.invariant.same_length
+    elim c.if-at-keys.branch [
+      | then-at-keys w ↦
+          let above : c.loop-at.at < length c.args.keys.now → get_or c.loop-i.tiles c.loop-i.i 0 < get_or c.args.keys.now c.loop-at.at 0 =
+          λ h. elim w.then-at-keys.branch [ then-at-keys-via-then-at-keys v ↦ absurd (omega arith) | then-at-keys-via-else-at-keys+then-tile-keys v ↦ omega arith ] in
+          rw (w.tiles-is, w.left-is) (stays c.requires.0.fits c.requires.1 c.requires.0.ascending c.loop-at.invariant (omega arith) above)
+      | else-at-keys+else-tile-keys w ↦
+          let not_below : get_or c.loop-i.tiles c.loop-i.i 0 ≤ get_or c.args.keys.now c.loop-at.at 0 =
+          elim c.loop-at-test.branch [ then-loop-at-test+else-keys-at v ↦ omega arith | else-loop-at-test v ↦ absurd (omega arith) ] in
+          rw (w.tiles-is, w.left-is) (goes c.requires.0.fits c.requires.1 c.requires.0.ascending c.loop-at.invariant (omega arith) (omega arith) (omega arith))
+    ]
 
 pub returns : goal.returns
 returns c =
