@@ -10,7 +10,7 @@ ghost use Rattle.search.specs.Table.{TileTable};
 ghost use Rattle.levels.specs.Tally.{Movable, lowered, raised, tally_after};
 
 use address::Level;
-use grid::{LEVEL_COUNT, ZOOM_FACTOR};
+use grid::ZOOM_FACTOR;
 use strict::Procedure;
 use tiles::Spot;
 
@@ -29,35 +29,27 @@ fn place_of(key: u32) -> usize
     requires { is_key key ≡ true }
     ensures { (result ≡ level_place key) × (result < 11) }
 {
-    (key / ZOOM_FACTOR - Level::LOWEST as u32) as usize
+    (key / ZOOM_FACTOR - u32::from(Level::LOWEST)) as usize
 }
 
-// A tile comes.
-fn raise(tally: Tally, key: u32) -> Tally
+// A tile comes. This and `lower` differ in a sign and in what they ask: one function of both would have both contracts in it, by cases.
+fn raise(mut tally: Tally, key: u32) -> Tally
     requires { (is_key key ≡ true) × (tally.tiles ≤ most_tiles) × (get_or tally.levels (level_place key) 0 ≤ most_tiles) }
     ensures { result ≡ raised tally key }
 {
-    let place = place_of(key);
-    let tiles = tally.tiles;
-    let level = tally.levels[place];
-    let mut next = tally;
-    next.tiles = tiles + 1;
-    next.levels[place] = level + 1;
-    next
+    tally.tiles += 1;
+    tally.levels[place_of(key)] += 1;
+    tally
 }
 
 // A tile goes.
-fn lower(tally: Tally, key: u32) -> Tally
+fn lower(mut tally: Tally, key: u32) -> Tally
     requires { (is_key key ≡ true) × (0 < tally.tiles) × (0 < get_or tally.levels (level_place key) 0) }
     ensures { result ≡ lowered tally key }
 {
-    let place = place_of(key);
-    let tiles = tally.tiles;
-    let level = tally.levels[place];
-    let mut next = tally;
-    next.tiles = tiles - 1;
-    next.levels[place] = level - 1;
-    next
+    tally.tiles -= 1;
+    tally.levels[place_of(key)] -= 1;
+    tally
 }
 
 // What is counted after a procedure whose tile has been looked for: an insert of a tile that is there counts nothing, nor does a delete of one that is not.
@@ -65,20 +57,10 @@ pub fn after(tally: Tally, procedure: Procedure, spot: Spot) -> Tally
     requires { Movable tally spot.key spot.there }
     ensures { result ≡ tally_after tally procedure spot.key spot.there }
 {
-    match procedure {
-        Procedure::Ins => {
-            if spot.there {
-                return tally;
-            }
-            raise(tally, spot.key)
-        }
-        Procedure::Del => {
-            if spot.there {
-                return lower(tally, spot.key);
-            }
-            tally
-        }
-        Procedure::Mem => tally,
+    match (procedure, spot.there) {
+        (Procedure::Ins, false) => raise(tally, spot.key),
+        (Procedure::Del, true) => lower(tally, spot.key),
+        _ => tally,
     }
 }
 
@@ -87,15 +69,13 @@ pub fn count_levels(tiles: &[u32], count: usize) -> [usize; 11]
     requires { TileTable tiles.now count × All (λ k. is_key k ≡ true) (take count tiles.now) }
     ensures { result ≡ levels_of (take count tiles.now) }
 {
-    let mut levels = [0usize; 11];
-    let mut below: usize = 0;
-    let mut i: usize = 0;
-    while i < LEVEL_COUNT {
+    let mut levels = [0; 11];
+    let mut below = 0;
+    for (i, level) in levels.iter_mut().enumerate() {
         let next = (i as u32 + NEXT_ZOOM) * ZOOM_FACTOR;
         let end = search::position(tiles, count, next);
-        levels[i] = end - below;
+        *level = end - below;
         below = end;
-        i += 1;
     }
     levels
 }
@@ -105,12 +85,5 @@ pub fn same_levels(kept: &[usize; 11], counted: &[usize; 11]) -> bool
     requires { (length kept.now ≡ 11) × (length counted.now ≡ 11) }
     ensures { result ≡ same_numbers kept.now counted.now }
 {
-    let mut i: usize = 0;
-    while i < LEVEL_COUNT {
-        if kept[i] != counted[i] {
-            return false;
-        }
-        i += 1;
-    }
-    true
+    kept == counted
 }

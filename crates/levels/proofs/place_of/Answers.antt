@@ -1,6 +1,5 @@
--- `levels::place_of` meets its contract: a valid key has one of the eleven zooms
-use mathlib.Core.Path.{refl}
-use native.Mathlib.Omega.{arith}
+-- A valid key has one of the eleven zooms
+use Rattle.std.proofs.Common.{arith}
 use Rattle.grid.proofs.Laws.Keys.{parts}
 use Rattle.levels.proofs.place_of.Goals as goal
 
@@ -8,4 +7,4 @@ pub overflow_sub-result : goal.overflow_sub-result
 overflow_sub-result c = omega (arith, (parts c.args.key c.requires).low)
 
 pub returns : goal.returns
-returns c = (refl, omega (arith, (parts c.args.key c.requires).low, (parts c.args.key c.requires).high))
+returns c = (rw c.from.ensures, omega (arith, (parts c.args.key c.requires).low, (parts c.args.key c.requires).high))
