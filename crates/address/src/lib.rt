@@ -12,10 +12,7 @@ use grid::{Address, COLUMN_FACTOR, Located, NORTH_EDITION, Position, SOUTH_EDITI
 fn is_edition(edition: u8) -> bool
     ensures { result ≡ is_edition edition }
 {
-    if edition == SOUTH_EDITION {
-        return true;
-    }
-    edition == NORTH_EDITION
+    matches!(edition, SOUTH_EDITION | NORTH_EDITION)
 }
 
 // A level of the map: 2^zoom columns, counted eastward from 180 degrees west, and as many rows from the north.
@@ -34,50 +31,31 @@ impl Level {
         requires { self.zoom ≤ 14 }
         ensures { result ≡ 2 ^ self.zoom }
     {
-        let zoom = self.zoom;
-        1u32 << zoom
+        1 << self.zoom
     }
 
-    // A column taken round the world: its remainder, from 0 to columns - 1. Left of zero no signed remainder is taken.
-    fn wrapped(column: i32, columns: u32) -> u32
-        requires { 0 < columns }
-        ensures { result ≡ around column columns }
+    // A column taken round the world: its remainder, from 0 to columns - 1.
+    fn wrapped(self, column: i32) -> u32
+        requires { self.zoom ≤ 14 }
+        ensures { result ≡ around column (2 ^ self.zoom) }
     {
-        if column < 0 {
-            columns - 1 - (-1 - column) as u32 % columns
-        } else {
-            column as u32 % columns
-        }
+        column.rem_euclid(self.columns() as i32) as u32
     }
 
-    // The whole turns of a column round the world, below 0 westward: the division rounds down, and none is taken of a signed number.
+    // The whole turns of a column round the world, below 0 westward: the division rounds down.
     pub fn turns(self, column: i32) -> i32
         requires { self.zoom ≤ 14 }
         ensures { result ≡ turns_of column (2 ^ self.zoom) }
     {
-        let columns = self.columns();
-        if column < 0 {
-            -1 - ((-1 - column) as u32 / columns) as i32
-        } else {
-            (column as u32 / columns) as i32
-        }
+        column.div_euclid(self.columns() as i32)
     }
 
     // Whether there is such a level, and it has this row.
     fn has_row(self, row: i32) -> bool
         ensures { result ≡ has_row self.zoom row }
     {
-        let zoom = self.zoom;
-        if row < 0 {
-            return false;
-        }
-        if zoom < Level::LOWEST {
-            return false;
-        }
-        if Level::HIGHEST < zoom {
-            return false;
-        }
-        (row as u32) < self.columns()
+        (Level::LOWEST..=Level::HIGHEST).contains(&self.zoom)
+            && (0..self.columns() as i32).contains(&row)
     }
 
     // A row of this level counted from the north.
@@ -86,9 +64,10 @@ impl Level {
         ensures { pos result ≡ north_row edition self.zoom row }
     {
         if edition == SOUTH_EDITION {
-            return self.columns() - 1 - row as u32;
+            self.columns() - 1 - row as u32
+        } else {
+            row as u32
         }
-        row as u32
     }
 
     // The key of a column and a row of this level.
@@ -96,46 +75,14 @@ impl Level {
         requires { (self.zoom ≤ 14) × (row < 2 ^ self.zoom) }
         ensures { result ≡ pack_key self.zoom (around column (2 ^ self.zoom)) row }
     {
-        let zoom = self.zoom;
-        zoom as u32 * ZOOM_FACTOR + Level::wrapped(column, self.columns()) * COLUMN_FACTOR + row
-    }
-
-    // The key and the turns of a column and a row. An edition that is none is refused, then a zoom or a row out of its range; only then is the row turned.
-    fn place(self, edition: u8, column: i32, row: i32) -> Located
-        ensures { placed result ≡ address_call (address_of edition self.zoom column row) }
-    {
-        if !is_edition(edition) {
-            return Located::NoEdition;
-        }
-        if !self.has_row(row) {
-            return Located::Refused;
-        }
-        let north = self.north_row(edition, row);
-        Located::Key {
-            key: self.key(column, north),
-            turns: self.turns(column),
-        }
+        u32::from(self.zoom) * ZOOM_FACTOR + self.wrapped(column) * COLUMN_FACTOR + row
     }
 
     // Whether a number is the key of some address.
     pub fn is_key(k: u32) -> bool
         ensures { result ≡ is_key k }
     {
-        let level = Level {
-            zoom: (k / ZOOM_FACTOR) as u8,
-        };
-        let zoom = level.zoom;
-        if zoom < Level::LOWEST {
-            return false;
-        }
-        if Level::HIGHEST < zoom {
-            return false;
-        }
-        let columns = level.columns();
-        if columns <= k % ZOOM_FACTOR / COLUMN_FACTOR {
-            return false;
-        }
-        k % COLUMN_FACTOR < columns
+        is_key_by(&columns_by_zoom(), k)
     }
 }
 
@@ -153,20 +100,27 @@ pub fn is_key_by(columns: &[u32; 16], k: u32) -> bool
     requires { columns.now ≡ columns_by_zoom }
     ensures { result ≡ is_key k }
 {
-    let zoom = (k / ZOOM_FACTOR) as usize;
-    let bound = columns[zoom];
-    if bound <= k % ZOOM_FACTOR / COLUMN_FACTOR {
-        return false;
-    }
-    k % COLUMN_FACTOR < bound
+    let at = split(k);
+    let bound = columns[at.zoom as usize];
+    at.column < bound && at.row < bound
 }
 
-// The address step: every column is accepted.
+// The address step: every column is accepted. An edition that is none is refused, then a zoom or a row out of its range; only then is the row turned.
 pub fn locate(a: Address) -> Located
     ensures { placed result ≡ address_call a }
 {
     let level = Level { zoom: a.zoom };
-    level.place(a.edition, a.column, a.row)
+    if !is_edition(a.edition) {
+        return Located::NoEdition;
+    }
+    if !level.has_row(a.row) {
+        return Located::Refused;
+    }
+    let row = level.north_row(a.edition, a.row);
+    Located::Key {
+        key: level.key(a.column, row),
+        turns: level.turns(a.column),
+    }
 }
 
 // Zoom, column and row of a key.

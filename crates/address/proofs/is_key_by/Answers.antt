@@ -1,4 +1,4 @@
--- `address::is_key_by` meets its contract: the table has the columns of each level, and below 0 there is no column
+-- The table has the columns of each level, and below 0 there is no column
 use mathlib.Core.Bool.{Bool, ◌&&◌, cond, false, true}
 use mathlib.Core.Path.{◌≡◌, refl}
 use Prim.Native.Nat.{◌^◌, ◌≤◌, suc, zero, ℕ}
@@ -38,12 +38,15 @@ by_table : (k : ℕ) → zoom_in k ≤ 15 → is_key k ≡ (ltb (column_in k) (g
 unfolding is_key
 by_table k h = rw (table_columns (zoom_in k) h) (below_none (leb 4 (zoom_in k) && leb (zoom_in k) 14) (2 ^ zoom_in k) (column_in k) (row_in k))
 
-pub returns-then-bound-k : goal.returns-then-bound-k
-returns-then-bound-k c =
+pub returns-then-at-bound : goal.returns-then-at-bound
+returns-then-at-bound c =
     let k = c.args.k in
-    rw (by_table k (omega arith), le-ltb (column_in k) (get_or columns_by_zoom (zoom_in k) 0) (rw c.requires at c.if-bound-k.true))
+    let at = c.split-at.ensures in
+    rw (at, by_table k (omega arith), lt-ltb (column_in k) (get_or columns_by_zoom (zoom_in k) 0) (rw (at, c.requires) at c.if-at-bound.true), c.requires)
 
-pub returns : goal.returns
-returns c =
+pub returns-else-at-bound : goal.returns-else-at-bound
+returns-else-at-bound c =
     let k = c.args.k in
-    rw (by_table k (omega arith), lt-ltb (column_in k) (get_or columns_by_zoom (zoom_in k) 0) (rw c.requires at c.if-bound-k.false), c.requires)
+    let at = c.split-at.ensures in
+    let none : ltb (column_in k) (get_or columns_by_zoom (zoom_in k) 0) ≡ false = le-ltb _ _ (rw (at, c.requires) at c.if-at-bound.false) in
+    rw (at, c.requires, by_table k (omega arith)) (rw none refl)
