@@ -28,19 +28,15 @@ pub fn unopened_session(rule: Rule, count: usize, levels: [usize; 11]) -> Sessio
 pub fn empty_session() -> Session
     ensures { result ≡ empty_session }
 {
-    unopened_session(Rule::Alone, 0, [0usize; 11])
+    unopened_session(Rule::Alone, 0, [0; 11])
 }
 
 // The tiles of a zoom, as the session has them to hand: 0 where it is none.
 pub fn tiles_of_zoom(session: Session, zoom: u8) -> usize
     ensures { result ≡ count_at session zoom }
 {
-    if zoom < Level::LOWEST {
-        return 0;
+    match zoom {
+        Level::LOWEST..=Level::HIGHEST => session.levels[usize::from(zoom - Level::LOWEST)],
+        _ => 0,
     }
-    if Level::HIGHEST < zoom {
-        return 0;
-    }
-    let place = (zoom - Level::LOWEST) as usize;
-    session.levels[place]
 }

@@ -1,4 +1,4 @@
--- `commuting::commutes` meets its contract: the constant is the table of specs/, row by row
+-- The constant is the table of specs/, row by row
 use mathlib.Core.Path.{refl}
 use Rattle.strict.specs.Commutativity.{entry_at}
 use Rattle.commuting.proofs.commutes.Goals as goal

@@ -1,4 +1,4 @@
--- `sessions::empty_session` meets its contract: eleven times nothing
+-- Eleven times nothing
 use Rattle.grid.specs.Levels.{levels_of}
 use Rattle.sessions.proofs.empty_session.Goals as goal
 
