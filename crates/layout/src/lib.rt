@@ -7,7 +7,7 @@ ghost use Rattle.layout.specs.Whose.{meant};
 
 use service::{JOB_FACTOR, KIND_FACTOR, SHEET_FACTOR};
 
-// Which of the entries are meant: all of them, or those of a job.
+// Which of the entries are meant: all of them, or those of a job. As an `Option` of a job it would read worse: `None` would mean all.
 #[derive(Clone, Copy)]
 pub enum Whose {
     Anyones,
@@ -19,7 +19,7 @@ pub fn entry(sheet: u16, kind: usize, job: u8, key: u32) -> u64
     requires { kind ≤ 6 }
     ensures { result ≡ pack_entry sheet kind job key }
 {
-    sheet as u64 * SHEET_FACTOR + kind as u64 * KIND_FACTOR + job as u64 * JOB_FACTOR + key as u64
+    u64::from(sheet) * SHEET_FACTOR + kind as u64 * KIND_FACTOR + u64::from(job) * JOB_FACTOR + u64::from(key)
 }
 
 pub fn sheet_in(e: u64) -> u16

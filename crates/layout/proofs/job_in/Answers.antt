@@ -1,6 +1,0 @@
--- `layout::job_in` meets its contract: a part of the number
-use mathlib.Core.Path.{refl}
-use Rattle.layout.proofs.job_in.Goals as goal
-
-pub returns : goal.returns
-returns c = refl
