@@ -1,27 +1,13 @@
--- `scans::entries_fit` meets its contract: what is left to test passes just where the whole does
-use mathlib.Core.Path.{◌∙◌, refl, sym}
-use native.Mathlib.Omega.{arith}
-use Rattle.lists.specs.Lists.{all_end, all_turn}
+-- `scans::entries_fit` meets its contract: the chain is the test of all
+use Rattle.std.proofs.Common.{◌∙◌, rules, take}
+use Rattle.std.proofs.lemmas.Iterator.{YieldsList-from_slice}
+use Rattle.std.proofs.lemmas.Iterator.Search.{all_from_yields_List}
+use borrow.Author.Tests.{tests}
+use Rattle.service.specs.Sound.{entry_tests, every}
+use Rattle.scans.proofs.Passes.{all_listed}
 use Rattle.scans.proofs.entries_fit.Goals as goal
 
-pub loop-i-init : goal.loop-i-init
-loop-i-init c = (omega arith, refl)
-
-pub returns-then-not-entry_fits : goal.returns-then-not-entry_fits
-returns-then-not-entry_fits c =
-    let l = c.loop-i in
-    sym (l.invariant.1
-    ∙ all_turn c.args.operations.now c.args.session.operations l.i c.requires c.loop-i-test.true _
-    (sym c.entry_fits.ensures ∙ c.if-not-entry_fits.true))
-
-pub loop-i-preserved : goal.loop-i-preserved
-loop-i-preserved c =
-    let l = c.loop-i in (
-      omega arith,
-      l.invariant.1
-          ∙ all_turn c.args.operations.now c.args.session.operations l.i c.requires c.loop-i-test.true _
-          (sym c.entry_fits.ensures ∙ c.if-not-entry_fits.false),
-    )
-
 pub returns : goal.returns
-returns c = let l = c.loop-i in sym (l.invariant.1 ∙ all_end _ _ _ _ c.loop-i-test.false)
+returns c =
+    let used = take c.args.session.operations c.args.operations.now in
+    all_from_yields_List (λ e. every (entry_tests c.args.session.marks e)) _ _ _ c.all.ensures.ran (YieldsList-from_slice used cc) (λ x b q k. search (rules, tests)) ∙ all_listed _ used

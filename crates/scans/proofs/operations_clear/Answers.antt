@@ -1,25 +1,13 @@
--- `scans::operations_clear` meets its contract: the flag so far and what is left to test pass just where the whole does
-use mathlib.Core.Path.{◌∙◌, sym}
-use native.Mathlib.Omega.{arith}
-use lib.ListN.{length}
-use lib.Seq.{take-length}
-use borrow.Author.Tests.{eq-eqb, ne_eqb}
-use Rattle.lists.specs.Lists.{flag_end, flag_falls, flag_stays}
+-- `scans::operations_clear` meets its contract: the chain is the test of all
+use Rattle.std.proofs.Common.{◌∙◌, ◌≡◌, ◌-◌, arith, length, take, rules, drop, nat_eq}
+use Rattle.std.proofs.lemmas.Grind.{common_steps}
+use Rattle.std.proofs.lemmas.Iterator.{YieldsList-from_slice}
+use Rattle.std.proofs.lemmas.Iterator.Search.{all_from_yields_List}
+use borrow.Author.Tests.{tests}
+use Rattle.scans.proofs.Passes.{all_listed}
 use Rattle.scans.proofs.operations_clear.Goals as goal
-use Rattle.scans.proofs.operations_clear.Goals.{else-operations-i-ne0, then-operations-i-ne0}
-
-pub loop-i-init : goal.loop-i-init
-loop-i-init c = (omega arith, rw take-length)
-
-pub loop-i-preserved : goal.loop-i-preserved
-loop-i-preserved c =
-    let operations = c.args.operations.now in
-    let l = c.loop-i in
-    let inside = c.loop-i-test.true in (
-      omega arith,
-      l.invariant.1
-          ∙ elim c.if-operations-i-ne0.branch [ then-operations-i-ne0 w ↦ flag_falls operations (length operations) l.i (omega arith) inside _ l.clear (ne_eqb _ 0 w.if-operations-i-ne0.true) w.clear-is | else-operations-i-ne0 w ↦ flag_stays operations (length operations) l.i (omega arith) inside _ l.clear (eq-eqb _ 0 w.if-operations-i-ne0.false) w.clear-is ],
-    )
 
 pub returns : goal.returns
-returns c = let l = c.loop-i in sym (l.invariant.1 ∙ flag_end _ _ _ _ l.clear c.loop-i-test.false)
+returns c =
+    let rest = drop c.args.from c.args.operations.now in
+    all_from_yields_List (λ e. nat_eq e 0) _ _ _ c.all.ensures.ran (YieldsList-from_slice rest (let all : take (length c.args.operations.now - c.args.from) rest ≡ rest = grind (arith, common_steps) in cc)) (λ x b q k. search (rules, tests)) ∙ all_listed _ rest
