@@ -1,7 +1,8 @@
 // A filter over the tiles of entries: where the bit of a tile is not set, no entry that the filter has met has the tile.
 #![tactic(auto)]
 
-ghost use Rattle.std.specs.Prelude.{false, true, List, ◌≡◌, ◌<◌, ◌≤◌, ℕ, eqb, length, take};
+ghost use Rattle.std.specs.Prelude.{false, true, List, ◌∷◌, ◌≡◌, ◌<◌, ◌≤◌, ◌/◌, ◌%◌, ℕ, eqb, length, take};
+ghost use Rattle.service.specs.Entry.{key_in};
 ghost use Rattle.filter.specs.Filter.{Covers, bit_in, elsewhere, slot_of};
 
 // The slot of a tile in the filter, which has 65,536.
@@ -11,8 +12,17 @@ pub fn slot(key: u32) -> usize
     (key as u64 * 2654435761 / 65536 % 65536) as usize
 }
 
+// Where the bit of a tile stands: in which word, and where in the word.
+fn place_of(key: u32) -> (usize, usize)
+    ensures word { (result.0 ≡ slot_of key / 64) × (result.0 < 1024) }
+    ensures bit { (result.1 ≡ slot_of key % 64) × (result.1 < 64) }
+{
+    let h = slot(key);
+    (h / 64, h % 64)
+}
+
 // Whether a bit of a word of the filter is set.
-pub fn has_bit(word: u64, place: usize) -> bool
+fn has_bit(word: u64, place: usize) -> bool
     requires { place < 64 }
     ensures { result ≡ eqb (bit_in word place) 1 }
 {
@@ -20,7 +30,7 @@ pub fn has_bit(word: u64, place: usize) -> bool
 }
 
 // A word with one bit more set.
-pub fn with_bit(word: u64, place: usize) -> u64
+fn with_bit(word: u64, place: usize) -> u64
     requires { place < 64 }
     ensures { (bit_in result place ≡ 1) × ((k : ℕ) → bit_in word k ≡ 1 → bit_in result k ≡ 1) }
 {
@@ -29,12 +39,18 @@ pub fn with_bit(word: u64, place: usize) -> u64
 
 // Whether the filter has met a tile. Where it has not, no entry that it covers has the tile.
 pub fn is_met(seen: &[u64; 1024], key: u32) -> bool
-    requires { length seen.now ≡ 1024 }
     ensures { (es : List ℕ) → Covers seen.now es → result ≡ false → elsewhere key es ≡ true }
 {
-    let h = slot(key);
-    let w = h / 64;
-    has_bit(seen[w], h % 64)
+    let (w, place) = place_of(key);
+    has_bit(seen[w], place)
+}
+
+// Has the filter meet a tile. It covers what it covered, and entries with the tile.
+pub fn meet(seen: &mut [u64; 1024], key: u32)
+    ensures { (e : ℕ) (es : List ℕ) → key_in e ≡ key → Covers seen.old es → Covers seen.new (e ∷ es) }
+{
+    let (w, place) = place_of(key);
+    seen[w] = with_bit(seen[w], place);
 }
 
 // A filter that has met the tile of each used entry.
@@ -42,13 +58,9 @@ pub fn meet_all(operations: &[u64], count: usize) -> [u64; 1024]
     requires { count ≤ length operations.now }
     ensures { (length result ≡ 1024) × Covers result (take count operations.now) }
 {
-    let mut met = [0u64; 1024];
-    let mut i = count;
-    while 0 < i {
-        i -= 1;
-        let h = slot(layout::key_in(operations[i]));
-        let w = h / 64;
-        met[w] = with_bit(met[w], h % 64);
+    let mut met = [0; 1024];
+    for e in &operations[..count] {
+        meet(&mut met, layout::key_in(*e));
     }
     met
 }

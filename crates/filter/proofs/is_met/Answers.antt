@@ -4,5 +4,5 @@ use Rattle.filter.proofs.is_met.Goals as goal
 
 pub returns : goal.returns
 returns c es covered unset =
-    let h = c.slot-h in
-    not_seen c.args.seen.now c.args.key h.result h.ensures.0 c.has_bit.ensures unset es covered
+    let p = c.place_of-w.ensures in
+    not_seen c.args.seen.now c.args.key _ _ p.word.0 p.bit.0 c.has_bit.ensures unset es covered
