@@ -1,28 +1,23 @@
--- `settling::tile_free` meets its contract: the flag so far and what is left to test pass just where the whole does
-use mathlib.Core.Bool.{not}
-use mathlib.Core.Path.{◌∙◌, ap, refl, sym}
-use native.Mathlib.Omega.{arith}
-use borrow.Author.Tests.{eq-eqb, ne_eqb}
-use Rattle.lists.specs.Lists.{flag_end, flag_falls, flag_stays}
+-- `settling::tile_free` meets its contract: no entry has the tile where the chain finds none
+use Rattle.std.specs.Prelude.{Bool, false, not, true, List, [], ◌∷◌, ◌≡◌, ◌&&◌, ◌||◌, refl, ℕ, eqb}
+use Rattle.std.proofs.Common.{◌∙◌, ap, rules}
+use Rattle.std.specs.List.{list_any}
+use Rattle.std.proofs.lemmas.Iterator.{YieldsList-from_slice}
+use Rattle.std.proofs.lemmas.Iterator.Search.{any_from_yields_List}
+use borrow.Author.Tests.{tests}
+use Rattle.service.specs.Entry.{key_in}
+use Rattle.filter.specs.Filter.{elsewhere}
 use Rattle.settling.proofs.tile_free.Goals as goal
-use Rattle.settling.proofs.tile_free.Goals.{else-key_in-key, then-key_in-key}
 
-pub loop-i-init : goal.loop-i-init
-loop-i-init c = (omega arith, refl)
+none_else : (a b c : Bool) → not b ≡ c → not (a || b) ≡ (not a && c)
+none_else true b c e = refl
+none_else false b c e = e
 
-pub loop-i-preserved : goal.loop-i-preserved
-loop-i-preserved c =
-    let l = c.loop-i in
-    let inside = c.loop-i-test.true in (
-      omega arith,
-      l.invariant.1
-          ∙ elim c.if-key_in-key.branch [
-            | then-key_in-key w ↦ flag_falls c.args.operations.now c.args.count l.i c.requires.1 inside _ l.free (ap not (eq-eqb _ _ (sym w.if-key_in-key.true ∙ c.key_in.ensures)))
-                w.free-is
-            | else-key_in-key w ↦ flag_stays c.args.operations.now c.args.count l.i c.requires.1 inside _ l.free (ap not (ne_eqb _ _ (λ e. w.if-key_in-key.false (c.key_in.ensures ∙ sym e))))
-                w.free-is
-          ],
-    )
+none_has : (key : ℕ) (es : List ℕ) → not (list_any (λ e. eqb key (key_in e)) es) ≡ elsewhere key es
+none_has key [] = refl
+none_has key (e ∷ es) = none_else (eqb key (key_in e)) _ _ (none_has key es)
 
 pub returns : goal.returns
-returns c = let l = c.loop-i in sym (l.invariant.1 ∙ flag_end _ _ _ _ l.free c.loop-i-test.false)
+returns c =
+    ap not (any_from_yields_List (λ e. eqb c.args.key (key_in e)) _ _ _ c.any.ensures.ran (YieldsList-from_slice c.args.entries.now cc) (λ x b q k. search (rules, tests)))
+    ∙ none_has c.args.key c.args.entries.now
