@@ -2,13 +2,13 @@
 use mathlib.Core.Bool.{Bool, ◌&&◌, ◌||◌, and-false, and-true, cond, false, not, true}
 use mathlib.Core.List.{List, [], ◌∷◌, map}
 use mathlib.Core.Path.{◌∙◌, ◌≡◌, ap, ap₂, refl, sym}
-use Prim.Native.Nat.{◌+◌, ◌<◌, ◌≤◌, ℕ}
+use Prim.Native.Nat.{◌+◌, ◌<◌, ℕ}
 use native.Mathlib.Omega.{arith}
 use lib.Dec.{eqb}
-use lib.ListN.{get_or, length}
-use lib.Seq.{slice}
+use lib.ListN.{drop, get_or, length}
+use Rattle.std.specs.List.{list_any}
 use borrow.Author.Tests.{eqb-true, not-true}
-use Rattle.lists.specs.Lists.{all_true, slice_next}
+use Rattle.lists.specs.Lists.{all_true}
 use Rattle.lists.specs.Truth.{both, one_if}
 use Rattle.strict.specs.Book.{counted_of, deleted}
 use Rattle.strict.specs.Tiles.{member}
@@ -20,7 +20,7 @@ use Rattle.layout.specs.declared.Whose.{Whose}
 use Rattle.entries.specs.Laws.{decoded}
 use Rattle.settling.specs.Tests.{settled_at}
 use Rattle.chains.specs.Chains.{followed, linked, passed}
-use Rattle.chains.proofs.Near.{Reaches, passed_by, same_from}
+use Rattle.chains.proofs.Near.{Reaches, drop_next, passed_by, same_from}
 
 -- DELETES
 abbrev pub is_delete : ℕ → Bool
@@ -90,31 +90,31 @@ module _ (t : List ℕ) (e : ℕ) (changes : changing (kind_in e) ≡ true) wher
   pub followed_settles : (later : List ℕ) → settled_B Together t later ≡ true → followed t e later ≡ settled_at Together t later e
   followed_settles later h = followed_is later h ∙ rw changes
 
--- A PASS, behind whose entry at i `slice (i + 1) n l` is left
-module _ (l : List ℕ) (n i : ℕ) (fits : n ≤ length l) (inside : i < n) where
-  pub followed_turn : (t : List ℕ) (e : ℕ) {b : Bool} → passed e (get_or l i 0) ≡ b
-      → followed t e (slice i n l) ≡ cond b (followed t e (slice (i + 1) n l)) (linked e (get_or l i 0))
-  followed_turn t e h = ap (followed t e) (slice_next l n i fits inside) ∙ ap (λ b. cond b (followed t e (slice (i + 1) n l)) (linked e (get_or l i 0))) h
+-- A PASS, behind whose entry at i `drop (i + 1) l` is left
+pub deleted_listed : (key : ℕ) (es : List ℕ) → list_any (λ e. is_delete e && eqb key (key_in e)) es ≡ deleted_in key es
+deleted_listed key [] = refl
+deleted_listed key (e ∷ es) = ap (λ b. (is_delete e && eqb key (key_in e)) || b) (deleted_listed key es) ∙ sym (deleted_first key e es)
 
-  pub deleted_turn : (key : ℕ) {b : Bool} → (is_delete (get_or l i 0) && eqb key (key_in (get_or l i 0))) ≡ b → deleted_in key (slice i n l) ≡ (b || deleted_in key (slice (i + 1) n l))
-  deleted_turn key h =
-      ap (deleted_in key) (slice_next l n i fits inside) ∙ deleted_first key (get_or l i 0) (slice (i + 1) n l) ∙ ap (λ b. b || deleted_in key (slice (i + 1) n l)) h
+module _ (l : List ℕ) (i : ℕ) (inside : i < length l) where
+  pub followed_turn : (t : List ℕ) (e : ℕ) {b : Bool} → passed e (get_or l i 0) ≡ b
+      → followed t e (drop i l) ≡ cond b (followed t e (drop (i + 1) l)) (linked e (get_or l i 0))
+  followed_turn t e h = ap (followed t e) (drop_next l i inside) ∙ ap (λ b. cond b (followed t e (drop (i + 1) l)) (linked e (get_or l i 0))) h
 
   counted_turn : (whose : Whose) (t : List ℕ) {b : Bool} → is_delete (get_or l i 0) ≡ b
-      → counted_in whose t (slice i n l)
-      ≡ one_if (meant whose (op_in (get_or l i 0)) && (b && not (member (key_in (get_or l i 0)) t || deleted_in (key_in (get_or l i 0)) (slice (i + 1) n l))))
-      + counted_in whose t (slice (i + 1) n l)
-  counted_turn whose t h = ap (counted_in whose t) (slice_next l n i fits inside) ∙ counted_first whose t (get_or l i 0) (slice (i + 1) n l) ∙ rw h
+      → counted_in whose t (drop i l)
+      ≡ one_if (meant whose (op_in (get_or l i 0)) && (b && not (member (key_in (get_or l i 0)) t || deleted_in (key_in (get_or l i 0)) (drop (i + 1) l))))
+      + counted_in whose t (drop (i + 1) l)
+  counted_turn whose t h = ap (counted_in whose t) (drop_next l i inside) ∙ counted_first whose t (get_or l i 0) (drop (i + 1) l) ∙ rw h
 
-  pub counted_same : (whose : Whose) (t : List ℕ) {absent : ℕ} → is_delete (get_or l i 0) ≡ false → absent ≡ counted_in whose t (slice (i + 1) n l)
-      → absent ≡ counted_in whose t (slice i n l)
+  pub counted_same : (whose : Whose) (t : List ℕ) {absent : ℕ} → is_delete (get_or l i 0) ≡ false → absent ≡ counted_in whose t (drop (i + 1) l)
+      → absent ≡ counted_in whose t (drop i l)
   counted_same whose t h so_far = let z = rw (and-false (meant whose (op_in (get_or l i 0)))) at (counted_turn whose t h) in omega arith
 
   -- one more if its tile is absent and none from the nearest delete on has it, since none before has
-  pub counted_more : (whose : Whose) (t : List ℕ) (from : ℕ) {absent one : ℕ} → is_delete (get_or l i 0) ≡ true → Reaches is_delete (key_in (get_or l i 0)) l n (i + 1) from
-      → one ≡ one_if (meant whose (op_in (get_or l i 0)) && not (member (key_in (get_or l i 0)) t || deleted_in (key_in (get_or l i 0)) (slice from n l)))
-      → absent ≡ counted_in whose t (slice (i + 1) n l) → absent + one ≡ counted_in whose t (slice i n l)
+  pub counted_more : (whose : Whose) (t : List ℕ) (from : ℕ) {absent : ℕ} {one : Bool} → is_delete (get_or l i 0) ≡ true → Reaches is_delete (key_in (get_or l i 0)) l (i + 1) from
+      → one ≡ (meant whose (op_in (get_or l i 0)) && not (member (key_in (get_or l i 0)) t || deleted_in (key_in (get_or l i 0)) (drop from l)))
+      → absent ≡ counted_in whose t (drop (i + 1) l) → absent + one_if one ≡ counted_in whose t (drop i l)
   counted_more whose t from h near here so_far =
       let key = key_in (get_or l i 0) in
-      let later = same_from (deleted_in key) (passed_by is_delete key) (deleted_passes key) l n from fits near.high (i + 1) near.low near.free in
-      omega (arith, counted_turn whose t h, here ∙ ap (λ b. one_if (meant whose (op_in (get_or l i 0)) && not (member key t || b))) (sym later))
+      let later = same_from (deleted_in key) (passed_by is_delete key) (deleted_passes key) l from near.high (i + 1) near.low near.free in
+      omega (arith, counted_turn whose t h, ap one_if (here ∙ ap (λ b. meant whose (op_in (get_or l i 0)) && not (member key t || b)) (sym later)))

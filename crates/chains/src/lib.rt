@@ -1,9 +1,8 @@
 // The tests of the rule that the entries of a job fail as one: what changed a tile goes on from what changed it before.
 #![tactic(auto)]
 
-ghost use Rattle.std.specs.Prelude.{◌&&◌, ◌||◌, not, true, map, ◌≡◌, ◌+◌, ◌<◌, ◌≤◌, eqb, get_or, length, take};
+ghost use Rattle.std.specs.Prelude.{◌&&◌, ◌||◌, not, true, map, ◌≡◌, ◌+◌, ◌<◌, ◌≤◌, drop, eqb, get_or, length, take};
 ghost use Rattle.std.proofs.Math.Seq.{slice};
-ghost use Rattle.lists.specs.Truth.{one_if};
 ghost use Rattle.strict.specs.Book.{counted_of, deleted};
 ghost use Rattle.strict.specs.Tiles.{member};
 ghost use Rattle.strict.specs.declared.Rule.TheVariants.{Together};
@@ -18,14 +17,15 @@ ghost use Rattle.chains.specs.Chains.{followed, linked, near_slot, passed, start
 use layout::Whose;
 use service::Session;
 
-// From where a later entry is to be looked for: from the nearest that its slot has, and from the end if it has none.
+// From where a later entry is to be looked for: from the nearest that its slot has, and from the end if it has none. A slot holds the place and 1, or 0:
+// with an `Option` in each, the table that every check first sets to 0 would be twice as long.
 fn start_of(near: u16, count: usize) -> usize
     ensures { result ≡ start_of near count }
 {
-    if near == 0 {
-        return count;
+    match near {
+        0 => count,
+        _ => usize::from(near) - 1,
     }
-    near as usize - 1
 }
 
 // The slot of a tile among those of the nearest entries, of which there are 16,384.
@@ -39,60 +39,32 @@ fn slot_of(key: u32) -> usize
 fn is_delete_of(e: u64, key: u32) -> bool
     ensures { result ≡ (eqb (kind_in e) 3 && eqb key (key_in e)) }
 {
-    if layout::kind_in(e) != 3 {
-        return false;
-    }
-    key == layout::key_in(e)
-}
-
-// Whether some entry from `from` on deleted the tile `key`.
-fn deleted_from(operations: &[u64], from: usize, count: usize, key: u32) -> bool
-    requires { (from ≤ count) × (count ≤ length operations.now) }
-    ensures { result ≡ deleted key (map op_in (slice from count operations.now)) }
-{
-    let mut i = from;
-    while i < count {
-        if is_delete_of(operations[i], key) {
-            return true;
-        }
-        i += 1;
-    }
-    false
+    layout::kind_in(e) == 3 && key == layout::key_in(e)
 }
 
 // Whether some entry deleted the tile `key`.
+fn some_deleted(entries: &[u64], key: u32) -> bool
+    ensures { result ≡ deleted key (map op_in entries.now) }
+{
+    entries.iter().any(|e| is_delete_of(*e, key))
+}
+
+// Whether some used entry deleted the tile `key`.
 pub fn is_deleted(operations: &[u64], count: usize, key: u32) -> bool
     requires { count ≤ length operations.now }
     ensures { result ≡ deleted key (map op_in (take count operations.now)) }
 {
-    deleted_from(operations, 0, count, key)
+    some_deleted(&operations[..count], key)
 }
 
-// 1 for an entry that is meant, where its tile is absent and no entry from `from` on deleted it, 0 for any other.
-fn last_absent(
-    tiles: &[u32],
-    used: usize,
-    operations: &[u64],
-    from: usize,
-    count: usize,
-    e: u64,
-    whose: Whose,
-) -> usize
-    requires { TileTable tiles.now used × (from ≤ count) × (count ≤ length operations.now) }
-    ensures { (result ≡ one_if (meant whose (op_in e)
-        && not (member (key_in e) (take used tiles.now) || deleted (key_in e) (map op_in (slice from count operations.now))))) × (result ≤ 1) }
+// Whether an entry is meant, and its tile is absent and none of the later ones deleted it.
+fn is_last_absent(tiles: &[u32], used: usize, e: u64, later: &[u64], whose: Whose) -> bool
+    requires { TileTable tiles.now used }
+    ensures { result ≡ (meant whose (op_in e)
+        && not (member (key_in e) (take used tiles.now) || deleted (key_in e) (map op_in later.now))) }
 {
-    if !layout::is_meant(e, whose) {
-        return 0;
-    }
     let key = layout::key_in(e);
-    if tiles::is_present(tiles, used, key) {
-        return 0;
-    }
-    if deleted_from(operations, from, count, key) {
-        return 0;
-    }
-    1
+    layout::is_meant(e, whose) && !tiles::is_present(tiles, used, key) && !some_deleted(later, key)
 }
 
 // How many absent tiles have an unfinished delete, each counted once, at its last, where that is meant. From the last entry to the first, with the nearest
@@ -107,26 +79,19 @@ pub fn count_absent(
     requires { TileTable tiles.now used × (count ≤ length operations.now) × (count ≤ 1024) }
     ensures { (result ≡ counted_of (meant whose) (take used tiles.now) (map op_in (take count operations.now))) × (result ≤ count) }
 {
+    let entries = &operations[..count];
     let mut deletes = [0u16; 16384];
-    let mut absent: usize = 0;
-    let mut i = count;
-    while 0 < i {
-        i -= 1;
-        let e = operations[i];
-        if layout::kind_in(e) != 3 {
-            continue;
+    let mut absent = 0;
+    for i in (0..entries.len()).rev() {
+        let e = entries[i];
+        if layout::kind_in(e) == 3 {
+            let s = slot_of(layout::key_in(e));
+            let from = start_of(deletes[s], entries.len());
+            if is_last_absent(tiles, used, e, &entries[from..], whose) {
+                absent += 1;
+            }
+            deletes[s] = (i + 1) as u16;
         }
-        let s = slot_of(layout::key_in(e));
-        absent += last_absent(
-            tiles,
-            used,
-            operations,
-            start_of(deletes[s], count),
-            count,
-            e,
-            whose,
-        );
-        deletes[s] = (i + 1) as u16;
     }
     absent
 }
@@ -135,68 +100,40 @@ pub fn count_absent(
 fn is_passed(e: u64, f: u64) -> bool
     ensures { result ≡ passed e f }
 {
-    if layout::key_in(e) != layout::key_in(f) {
-        return true;
-    }
-    if layout::job_in(e) != layout::job_in(f) {
-        return false;
-    }
-    !settling::is_changing(f)
+    layout::key_in(e) != layout::key_in(f)
+        || (layout::job_in(e) == layout::job_in(f) && !settling::is_changing(f))
 }
 
 // Whether `f` goes on from `e`: it is of the same job, and of the other kind.
 fn is_linked(e: u64, f: u64) -> bool
     ensures { result ≡ linked e f }
 {
-    if layout::job_in(f) != layout::job_in(e) {
-        return false;
-    }
-    layout::kind_in(e) != layout::kind_in(f)
+    layout::job_in(e) == layout::job_in(f) && layout::kind_in(e) != layout::kind_in(f)
 }
 
 // Whether what comes after `e`, that changed its tile, goes on from it: the first that decides does, and where there is none the tile is as `e` left it.
 // It is left at that first one: where deleted tiles are inserted again few are looked at.
-fn is_followed(
-    tiles: &[u32],
-    used: usize,
-    operations: &[u64],
-    from: usize,
-    count: usize,
-    e: u64,
-) -> bool
-    requires { TileTable tiles.now used × (from ≤ count) × (count ≤ length operations.now) }
-    ensures { result ≡ followed (take used tiles.now) e (slice from count operations.now) }
+fn is_followed(tiles: &[u32], used: usize, e: u64, later: &[u64]) -> bool
+    requires { TileTable tiles.now used }
+    ensures { result ≡ followed (take used tiles.now) e later.now }
 {
-    let mut i = from;
-    while i < count {
-        let f = operations[i];
-        if !is_passed(e, f) {
-            return is_linked(e, f);
+    for f in later {
+        if !is_passed(e, *f) {
+            return is_linked(e, *f);
         }
-        i += 1;
     }
     settling::as_left(tiles, used, e)
 }
 
 // Whether an entry is settled, where all after it are, and none before `from` has its tile.
-fn entry_chained(
-    tiles: &[u32],
-    used: usize,
-    operations: &[u64],
-    at: usize,
-    from: usize,
-    count: usize,
-) -> bool
-    requires { TileTable tiles.now used × (at < from) × (from ≤ count) × (count ≤ length operations.now)
-        × (elsewhere (key_in (get_or operations.now at 0)) (slice (at + 1) from operations.now) ≡ true)
-        × (settled_B Together (take used tiles.now) (slice (at + 1) count operations.now) ≡ true) }
-    ensures { result ≡ settled_at Together (take used tiles.now) (slice (at + 1) count operations.now) (get_or operations.now at 0) }
+fn entry_chained(tiles: &[u32], used: usize, entries: &[u64], at: usize, from: usize) -> bool
+    requires { TileTable tiles.now used × (at < from) × (from ≤ length entries.now)
+        × (elsewhere (key_in (get_or entries.now at 0)) (slice (at + 1) from entries.now) ≡ true)
+        × (settled_B Together (take used tiles.now) (drop (at + 1) entries.now) ≡ true) }
+    ensures { result ≡ settled_at Together (take used tiles.now) (drop (at + 1) entries.now) (get_or entries.now at 0) }
 {
-    let e = operations[at];
-    if !settling::is_changing(e) {
-        return true;
-    }
-    is_followed(tiles, used, operations, from, count, e)
+    let e = entries[at];
+    !settling::is_changing(e) || is_followed(tiles, used, e, &entries[from..])
 }
 
 // Whether the tiles are as the entries left them, by the rule that those of a job fail as one. From the last entry to the first, with the nearest later
@@ -205,14 +142,12 @@ pub fn is_chained(session: Session, tiles: &[u32], operations: &[u64]) -> bool
     requires { TileTable tiles.now session.tiles × (session.operations ≤ length operations.now) × (session.operations ≤ 1024) }
     ensures { result ≡ settled_B Together (take session.tiles tiles.now) (take session.operations operations.now) }
 {
-    let count = session.operations;
-    let used = session.tiles;
+    let entries = &operations[..session.operations];
     let mut near = [0u16; 16384];
-    let mut i = count;
-    while 0 < i {
-        i -= 1;
-        let s = slot_of(layout::key_in(operations[i]));
-        if !entry_chained(tiles, used, operations, i, start_of(near[s], count), count) {
+    for i in (0..entries.len()).rev() {
+        let s = slot_of(layout::key_in(entries[i]));
+        let from = start_of(near[s], entries.len());
+        if !entry_chained(tiles, session.tiles, entries, i, from) {
             return false;
         }
         near[s] = (i + 1) as u16;

@@ -1,30 +1,21 @@
 -- `chains::entry_chained` meets its contract: what follows the entry says what is asked of it
-use mathlib.Core.Bool.{not}
-use mathlib.Core.Path.{◌∙◌, sym}
-use Prim.Native.Nat.{◌+◌}
-use native.Mathlib.Omega.{arith}
-use lib.Dec.{eqb}
-use lib.ListN.{get_or, take}
-use lib.Seq.{slice}
-use Rattle.strict.specs.declared.Rule.TheVariants.{Together}
+use Rattle.std.specs.Prelude.{not, eqb}
+use Rattle.std.proofs.Common.{◌∙◌, ◌≡◌, ◌+◌, ◌-◌, arith, drop, get_or, length, sym, take}
+use Rattle.std.proofs.lemmas.Grind.{common_steps}
 use Rattle.service.specs.Entry.{key_in}
-use Rattle.settling.specs.Laws.{unchanged_settled}
 use Rattle.chains.specs.Chains.{followed}
 use Rattle.chains.proofs.Near.{same_from}
 use Rattle.chains.proofs.Passes.{followed_passes, followed_settles}
 use Rattle.chains.proofs.entry_chained.Goals as goal
 
-pub returns-then-not-is_changing : goal.returns-then-not-is_changing
-returns-then-not-is_changing c =
-    let l = c.args.operations.now in
-    sym (unchanged_settled Together (take c.args.used c.args.tiles.now) (slice (c.args.at + 1) c.args.count l) (get_or l c.args.at 0) (sym c.is_changing.ensures ∙ c.if-not-is_changing.true))
-
-pub returns : goal.returns
-returns c =
-    let l = c.args.operations.now in
+pub returns-else-not-is_changing : goal.returns-else-not-is_changing
+returns-else-not-is_changing c =
+    let l = c.args.entries.now in
+    let from = c.args.from in
     let t = take c.args.used c.args.tiles.now in
     let e = get_or l c.args.at 0 in
-    let from = same_from (followed t e) (λ f. not (eqb (key_in e) (key_in f))) (followed_passes t e) l c.args.count c.args.from c.requires.3 c.requires.2 (c.args.at + 1) (omega arith) c.requires.4 in
-    c.is_followed.ensures
-    ∙ sym from
-    ∙ followed_settles t e (sym c.is_changing.ensures ∙ c.if-not-is_changing.false) (slice (c.args.at + 1) c.args.count l) c.requires.5
+    let later : take (length l - from) (drop from l) ≡ drop from l = grind (arith, common_steps) in
+    let same = same_from (followed t e) (λ f. not (eqb (key_in e) (key_in f))) (followed_passes t e) l from c.requires.2 (c.args.at + 1) (omega arith) c.requires.3 in
+    rw later at c.is_followed.ensures
+    ∙ sym same
+    ∙ followed_settles t e (sym c.is_changing.ensures ∙ c.if-not-is_changing.false) (drop (c.args.at + 1) l) c.requires.4
