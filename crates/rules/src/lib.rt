@@ -20,8 +20,7 @@ pub fn is_settled(session: Session, tiles: &[u32], operations: &[u64]) -> bool
     requires { TileTable tiles.now session.tiles × (session.operations ≤ length operations.now) × (session.operations ≤ 1024) }
     ensures { result ≡ settled_B session.rule (take session.tiles tiles.now) (take session.operations operations.now) }
 {
-    let rule = session.rule;
-    match rule {
+    match session.rule {
         Rule::Alone => settling::is_settled(session, tiles, operations),
         Rule::Together => chains::is_chained(session, tiles, operations),
     }
@@ -33,12 +32,10 @@ pub fn count_spoken(session: Session, tiles: &[u32], operations: &[u64], whose: 
     ensures { (result ≡ spoken_of session.rule (meant whose) (take session.tiles tiles.now) (map op_in (take session.operations operations.now)))
         × (result ≤ 1024) }
 {
-    let rule = session.rule;
-    let count = session.tiles;
     let used = session.operations;
-    match rule {
+    match session.rule {
         Rule::Alone => entries::count_reserved(operations, used, whose),
-        Rule::Together => chains::count_absent(tiles, count, operations, used, whose),
+        Rule::Together => chains::count_absent(tiles, session.tiles, operations, used, whose),
     }
 }
 
@@ -47,12 +44,9 @@ pub fn needs_place(rule: Rule, operations: &[u64], used: usize, kind: usize, key
     requires { used ≤ length operations.now }
     ensures { result ≡ wants_place rule (map op_in (take used operations.now)) kind key }
 {
-    if kind != 1 {
-        return false;
-    }
     match rule {
-        Rule::Alone => true,
-        Rule::Together => !chains::is_deleted(operations, used, key),
+        Rule::Alone => kind == 1,
+        Rule::Together => kind == 1 && !chains::is_deleted(operations, used, key),
     }
 }
 

