@@ -1,15 +1,15 @@
 -- The tests as the code asks them, each by one function, and what the first of them say for the later ones
-use mathlib.Core.Bool.{Bool, ◌&&◌, and_assoc, and-true, false, true}
+use mathlib.Core.Bool.{Bool, ◌&&◌, and_assoc, and-true, true}
 use mathlib.Core.List.{List, [], ◌∷◌}
 use mathlib.Core.Path.{◌∙◌, ◌≡◌, ap, refl, sym}
 use Prim.Native.Nat.{◌+◌, ◌-◌, ◌≤◌, suc, zero, ℕ}
 use native.Mathlib.Omega.{arith}
 use lib.Dec.{leb, leb-zero}
-use lib.ListN.{drop, get_or, length, length-replicate, length-take, replicate, take}
+use lib.ListN.{drop, length, length-replicate, length-take, replicate, take}
 use borrow.Author.Tests.{eq-eqb, le-leb, leb-true}
 use Rattle.lists.specs.Lists.{All, all_is, all_true, same_numbers_lem}
 use Rattle.lists.specs.Truth.{both}
-use Rattle.scans.specs.Tests.{all_entries, fails, sorted_keys}
+use Rattle.scans.specs.Tests.{all_entries, sorted_keys}
 use Rattle.grid.specs.Levels.{levels_of}
 use Rattle.grid.specs.Tile.{is_key}
 use Rattle.service.specs.Calls.{fresh, start_world}
@@ -27,7 +27,7 @@ use Rattle.soundness.specs.Tests.{count_tests, fresh_tests}
 -- THE TABLES
 module _ (s : Session) (t o : List ℕ) where
   -- the tests of the tables, by the function that computes them
-  abbrev parts : List Bool
+  abbrev pub parts : List Bool
   parts =
       every (count_tests s.tiles s.operations t o)
       ∷ (sorted_keys (take s.tiles t) && zeros (drop s.tiles t))
@@ -37,45 +37,19 @@ module _ (s : Session) (t o : List ℕ) where
       ∷ every (fresh_tests (world s t o []))
       ∷ []
 
-  tabled_parts : tabled_B (world s t o []) ≡ every parts
+  pub tabled_parts : tabled_B (world s t o []) ≡ every parts
   unfolding tabled_B
   tabled_parts = simp (and_assoc, and-true)
 
-  pub part_fails : (i : ℕ) → get_or parts i true ≡ false → false ≡ tabled_B (world s t o [])
-  part_fails i e = sym (tabled_parts ∙ fails parts i e)
-
-  -- what the first test says
-  pub record Counted : Type 0 where
-    pub few_tiles : length t ≤ 4096
-    pub few_operations : length o ≤ 1024
-    pub tiles_fit : s.tiles ≤ length t
-    pub operations_fit : s.operations ≤ length o
-
-  pub counted : every (count_tests s.tiles s.operations t o) ≡ true → Counted
-  counted e =
-      let p = (every_is (count_tests s.tiles s.operations t o) e).1 in
-      record {
-        few_tiles = leb-true _ _ p.0;
-        few_operations = leb-true _ _ p.1.1.0;
-        tiles_fit = leb-true _ _ p.1.1.1.0;
-        operations_fit = leb-true _ _ p.1.1.1.1.0;
-      }
-
-  module _ (counts : Counted) where
-    pub tile_table : (sorted_keys (take s.tiles t) && zeros (drop s.tiles t)) ≡ true → TileTable t s.tiles
-    tile_table e =
-        let p = both (sorted_keys (take s.tiles t)) _ e in
-        zeros_table s.tiles t counts.tiles_fit (ascending_is (take s.tiles t) (both (all_true is_key (take s.tiles t)) _ p.0).1) (zeros_is (drop s.tiles t) p.1)
+  -- what the first tests say
+  pub tile_table : every (count_tests s.tiles s.operations t o) ≡ true → (sorted_keys (take s.tiles t) && zeros (drop s.tiles t)) ≡ true → TileTable t s.tiles
+  tile_table counts e =
+      let p = both (sorted_keys (take s.tiles t)) _ e in
+      let fits = leb-true _ _ (every_is (count_tests s.tiles s.operations t o) counts).1.1.1.1.0 in
+      zeros_table s.tiles t fits (ascending_is (take s.tiles t) (both (all_true is_key (take s.tiles t)) _ p.0).1) (zeros_is (drop s.tiles t) p.1)
 
   pub keys_valid : (sorted_keys (take s.tiles t) && zeros (drop s.tiles t)) ≡ true → All (λ k. is_key k ≡ true) (take s.tiles t)
   keys_valid e = all_is is_key (λ k. is_key k ≡ true) (λ x y. y) (take s.tiles t) (both (all_true is_key (take s.tiles t)) _ (both (sorted_keys (take s.tiles t)) _ e).0).0
-
-  -- where the others pass, the last decides
-  pub last_decides : every (count_tests s.tiles s.operations t o) ≡ true → (sorted_keys (take s.tiles t) && zeros (drop s.tiles t)) ≡ true
-      → all_entries s.marks (take s.operations o) ≡ true → zeros (drop s.operations o) ≡ true
-      → settled_B s.rule (take s.tiles t) (take s.operations o) ≡ true
-      → every (fresh_tests (world s t o [])) ≡ tabled_B (world s t o [])
-  last_decides counts tiles entries operations_rest settled = rw (tabled_parts, counts, tiles, entries, operations_rest, settled) (sym (and-true _))
 
 -- A START
 -- cleared operation places pass the test of what is behind the used ones
@@ -85,7 +59,7 @@ zeros_again (suc n) = zeros_again n
 
 module _ (r : Rule) (t : List ℕ) (count : ℕ) (o j : List ℕ) where
   -- what is left of the tests where no job is open and no operation is used
-  abbrev starts : List Bool
+  abbrev pub starts : List Bool
   starts =
       every (count_tests count 0 t o)
       ∷ (sorted_keys (take count t) && zeros (drop count t))
@@ -100,18 +74,10 @@ module _ (r : Rule) (t : List ℕ) (count : ℕ) (o j : List ℕ) where
   used_few : length (take count t) + spoken_by r (take count t) [] ≤ length t
   used_few = rw (nothing_spoken r (take count t)) (simp length-take (omega arith))
 
-  start_parts : sound_B (start_world r t count o j) ≡ every starts
+  pub start_parts : sound_B (start_world r t count o j) ≡ every starts
   unfolding sound_B tabled_B
   start_parts =
       ap (λ b. b && every (journal_tests (start_world r t count o j))) (tabled_parts (fresh r count (take count t)) t (replicate (length o) 0))
       ∙ (λ i. every (every (counts_again i) ∷ (sorted_keys (take count t) && zeros (drop count t)) ∷ true ∷ zeros_again (length o) i ∷ true ∷ every (le-leb _ _ used_few i ∷ same_numbers_lem {xs = levels_of (take count t)} refl i ∷ eq-eqb _ _ (sym (nothing_spoken r (take count t))) i ∷ []) ∷ [])
       && every (leb (length j) 65536 ∷ leb-zero (length j) i ∷ leb-zero (length j - 0) i ∷ []))
       ∙ simp (and_assoc, and-true)
-
-  pub start_fails : (i : ℕ) → get_or starts i true ≡ false → false ≡ sound_B (start_world r t count o j)
-  start_fails i e = sym (start_parts ∙ fails starts i e)
-
-  -- where the others pass, the journal's length decides
-  pub journal_decides : every (count_tests count 0 t o) ≡ true → (sorted_keys (take count t) && zeros (drop count t)) ≡ true
-      → leb (length j) 65536 ≡ sound_B (start_world r t count o j)
-  journal_decides counts tiles = rw (start_parts, counts, tiles) (sym (and-true _))

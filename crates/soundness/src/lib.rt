@@ -19,46 +19,24 @@ use strict::Rule;
 fn counts_fit(count: usize, used: usize, tiles: &[u32], operations: &[u64]) -> bool
     ensures { result ≡ every (count_tests count used tiles.now operations.now) }
 {
-    if tiles.len() < 1 {
-        return false;
-    }
-    if MOST_TILES < tiles.len() {
-        return false;
-    }
-    if operations.len() < 1 {
-        return false;
-    }
-    if MOST_OPERATIONS < operations.len() {
-        return false;
-    }
-    if tiles.len() < count {
-        return false;
-    }
-    used <= operations.len()
+    1 <= tiles.len()
+        && tiles.len() <= MOST_TILES
+        && 1 <= operations.len()
+        && operations.len() <= MOST_OPERATIONS
+        && count <= tiles.len()
+        && used <= operations.len()
 }
 
 // Whether the tables and the open marks are sound, whatever the journal.
 pub fn tables_sound(session: Session, tiles: &[u32], operations: &[u64]) -> bool
     ensures { result ≡ tabled_B (world session tiles.now operations.now []) }
 {
-    let count = session.tiles;
-    let used = session.operations;
-    if !counts_fit(count, used, tiles, operations) {
-        return false;
-    }
-    if !scans::tiles_sound(tiles, count) {
-        return false;
-    }
-    if !scans::entries_fit(session, operations) {
-        return false;
-    }
-    if !scans::operations_clear(operations, used) {
-        return false;
-    }
-    if !rules::is_settled(session, tiles, operations) {
-        return false;
-    }
-    counts_fresh(session, tiles, operations)
+    counts_fit(session.tiles, session.operations, tiles, operations)
+        && scans::tiles_sound(tiles, session.tiles)
+        && scans::entries_fit(session, operations)
+        && scans::operations_clear(operations, session.operations)
+        && rules::is_settled(session, tiles, operations)
+        && counts_fresh(session, tiles, operations)
 }
 
 // Whether the counts that a session holds are what a fresh count gives, and what is spoken for has its places.
@@ -67,33 +45,21 @@ fn counts_fresh(session: Session, tiles: &[u32], operations: &[u64]) -> bool
         × (session.operations ≤ length operations.now) × (session.operations ≤ most_operations) × (session.tiles ≤ most_tiles) }
     ensures { result ≡ every (fresh_tests (world session tiles.now operations.now [])) }
 {
-    let count = session.tiles;
     let spoken = rules::count_spoken(session, tiles, operations, Whose::Anyones);
-    if tiles.len() < count + spoken {
-        return false;
-    }
-    let counted = levels::count_levels(tiles, count);
-    if !levels::same_levels(&session.levels, &counted) {
-        return false;
-    }
-    session.spoken == spoken
+    let counted = levels::count_levels(tiles, session.tiles);
+    session.tiles + spoken <= tiles.len()
+        && levels::same_levels(&session.levels, &counted)
+        && session.spoken == spoken
 }
 
 // Whether a session and its lent tables are sound.
 pub fn sound(session: Session, tiles: &[u32], operations: &[u64], journal: &[u8]) -> bool
     ensures { result ≡ sound_B (world session tiles.now operations.now journal.now) }
 {
-    if !tables_sound(session, tiles, operations) {
-        return false;
-    }
-    if MOST_BYTES < journal.len() {
-        return false;
-    }
-    let used = session.journal;
-    if journal.len() < used {
-        return false;
-    }
-    SHORT_SIZE * scans::open_jobs(session) <= journal.len() - used
+    tables_sound(session, tiles, operations)
+        && journal.len() <= MOST_BYTES
+        && session.journal <= journal.len()
+        && SHORT_SIZE * scans::open_jobs(session) <= journal.len() - session.journal
 }
 
 // A session of so many tiles, with no job open, nothing admitted and nothing written, and the levels counted.
@@ -109,11 +75,7 @@ pub fn fresh_session(rule: Rule, tiles: &[u32], count: usize) -> Session
 pub fn can_start(tiles: &[u32], count: usize, operations: &[u64], journal: &[u8]) -> bool
     ensures { (rule : Rule) → result ≡ sound_B (start_world rule tiles.now count operations.now journal.now) }
 {
-    if !counts_fit(count, 0, tiles, operations) {
-        return false;
-    }
-    if !scans::tiles_sound(tiles, count) {
-        return false;
-    }
-    journal.len() <= MOST_BYTES
+    counts_fit(count, 0, tiles, operations)
+        && scans::tiles_sound(tiles, count)
+        && journal.len() <= MOST_BYTES
 }
