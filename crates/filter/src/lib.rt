@@ -1,4 +1,5 @@
-// A filter over the tiles of entries: where the bit of a tile is not set, no entry that the filter has met has the tile.
+// A filter over the tiles of entries: where the bit of a tile is not set, no entry that the filter has met has the tile. It stays a plain array: what it
+// covers is said of it and of entries that stand elsewhere, so that a type of its own could not say it.
 #![tactic(auto)]
 
 ghost use Rattle.std.specs.Prelude.{false, true, List, ◌∷◌, ◌≡◌, ◌<◌, ◌≤◌, ◌/◌, ◌%◌, ℕ, eqb, length, take};
@@ -9,7 +10,7 @@ ghost use Rattle.filter.specs.Filter.{Covers, bit_in, elsewhere, slot_of};
 pub fn slot(key: u32) -> usize
     ensures { (result ≡ slot_of key) × (result < 65536) }
 {
-    (key as u64 * 2654435761 / 65536 % 65536) as usize
+    (u64::from(key) * 2654435761 / 65536 % 65536) as usize
 }
 
 // Where the bit of a tile stands: in which word, and where in the word.

@@ -19,10 +19,8 @@ use strict::Rule;
 fn counts_fit(count: usize, used: usize, tiles: &[u32], operations: &[u64]) -> bool
     ensures { result ≡ every (count_tests count used tiles.now operations.now) }
 {
-    1 <= tiles.len()
-        && tiles.len() <= MOST_TILES
-        && 1 <= operations.len()
-        && operations.len() <= MOST_OPERATIONS
+    matches!(tiles.len(), 1..=MOST_TILES)
+        && matches!(operations.len(), 1..=MOST_OPERATIONS)
         && count <= tiles.len()
         && used <= operations.len()
 }
