@@ -1,5 +1,5 @@
 -- What one pass from the last entry to the first finds out of an entry
-use Rattle.std.specs.Prelude.{Bool, ◌&&◌, ◌||◌, cond, not, List, [], ◌∷◌, ◌-◌, ◌/◌, ℕ, eqb}
+use Rattle.std.specs.Prelude.{Bool, ◌&&◌, ◌||◌, cond, not, List, [], ◌∷◌, ◌/◌, ℕ, eqb}
 use Rattle.strict.specs.Tiles.{member}
 use Rattle.service.specs.Entry.{job_in, key_in, kind_in}
 use Rattle.service.specs.Sound.{as_left, changing}
@@ -8,10 +8,6 @@ use Rattle.filter.specs.Filter.{slot_of}
 -- the slot of a tile, of 16,384
 abbrev pub near_slot : ℕ → ℕ
 near_slot key = slot_of key / 4
-
--- what a slot holds is the place of the nearest entry and 1, or 0 for none: the place, or the end
-abbrev pub start_of : ℕ → ℕ → ℕ
-start_of near count = cond (eqb near 0) count (near - 1)
 
 -- of what is asked of e, that changed its tile, the later entry f decides nothing: it is on another tile, or of e's job and changed nothing
 abbrev pub passed : ℕ → ℕ → Bool

@@ -12,21 +12,10 @@ ghost use Rattle.search.specs.Table.{TileTable};
 ghost use Rattle.layout.specs.Whose.{meant};
 ghost use Rattle.filter.specs.Filter.{elsewhere};
 ghost use Rattle.settling.specs.Tests.{settled_at};
-ghost use Rattle.chains.specs.Chains.{followed, linked, near_slot, passed, start_of};
+ghost use Rattle.chains.specs.Chains.{followed, linked, near_slot, passed};
 
 use layout::Whose;
 use service::Session;
-
-// From where a later entry is to be looked for: from the nearest that its slot has, and from the end if it has none. A slot holds the place and 1, or 0:
-// with an `Option` in each, the table that every check first sets to 0 would be twice as long.
-fn start_of(near: u16, count: usize) -> usize
-    ensures { result ≡ start_of near count }
-{
-    match near {
-        0 => count,
-        _ => usize::from(near) - 1,
-    }
-}
 
 // The slot of a tile among those of the nearest entries, of which there are 16,384.
 fn slot_of(key: u32) -> usize
@@ -68,7 +57,7 @@ fn is_last_absent(tiles: &[u32], used: usize, e: u64, later: &[u64], whose: Whos
 }
 
 // How many absent tiles have an unfinished delete, each counted once, at its last, where that is meant. From the last entry to the first, with the nearest
-// later delete of each slot: before it none deleted a tile of that slot.
+// later delete of each slot, or the end: before it none deleted a tile of that slot.
 pub fn count_absent(
     tiles: &[u32],
     used: usize,
@@ -80,17 +69,17 @@ pub fn count_absent(
     ensures { (result ≡ counted_of (meant whose) (take used tiles.now) (map op_in (take count operations.now))) × (result ≤ count) }
 {
     let entries = &operations[..count];
-    let mut deletes = [0u16; 16384];
+    let mut deletes = [count as u16; 16384];
     let mut absent = 0;
     for i in (0..entries.len()).rev() {
         let e = entries[i];
         if layout::kind_in(e) == 3 {
             let s = slot_of(layout::key_in(e));
-            let from = start_of(deletes[s], entries.len());
-            if is_last_absent(tiles, used, e, &entries[from..], whose) {
+            let later = &entries[usize::from(deletes[s])..];
+            if is_last_absent(tiles, used, e, later, whose) {
                 absent += 1;
             }
-            deletes[s] = (i + 1) as u16;
+            deletes[s] = i as u16;
         }
     }
     absent
@@ -137,20 +126,19 @@ fn entry_chained(tiles: &[u32], used: usize, entries: &[u64], at: usize, from: u
 }
 
 // Whether the tiles are as the entries left them, by the rule that those of a job fail as one. From the last entry to the first, with the nearest later
-// entry of each slot: before it none has a tile of that slot.
+// entry of each slot, or the end: before it none has a tile of that slot.
 pub fn is_chained(session: Session, tiles: &[u32], operations: &[u64]) -> bool
     requires { TileTable tiles.now session.tiles × (session.operations ≤ length operations.now) × (session.operations ≤ 1024) }
     ensures { result ≡ settled_B Together (take session.tiles tiles.now) (take session.operations operations.now) }
 {
     let entries = &operations[..session.operations];
-    let mut near = [0u16; 16384];
+    let mut near = [session.operations as u16; 16384];
     for i in (0..entries.len()).rev() {
         let s = slot_of(layout::key_in(entries[i]));
-        let from = start_of(near[s], entries.len());
-        if !entry_chained(tiles, session.tiles, entries, i, from) {
+        if !entry_chained(tiles, session.tiles, entries, i, usize::from(near[s])) {
             return false;
         }
-        near[s] = (i + 1) as u16;
+        near[s] = i as u16;
     }
     true
 }

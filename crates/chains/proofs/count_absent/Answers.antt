@@ -11,20 +11,21 @@ use Rattle.chains.proofs.count_absent.Goals.{else-is_last_absent, then-is_last_a
 pub loop-i-init : goal.loop-i-init
 loop-i-init c =
     let entries = take c.args.count c.args.operations.now in
-    (refl, omega arith, near_start is_delete entries, rw (drop_of_length-le entries {i = length entries} (omega arith)))
+    let used : c.args.count ≡ length entries = search (rules, arith) in
+    (refl, omega arith, near_start is_delete entries c.args.count used, rw (drop_of_length-le entries {i = length entries} (omega arith)))
 
 pub loop-i-preserved-then-kind_in-eq3 : goal.loop-i-preserved-then-kind_in-eq3
 loop-i-preserved-then-kind_in-eq3 c =
     let l = c.loop-i in
     let i = l.i - 1 in
     let s = c.slot_of-s in
-    let from = c.start_of-from.result in
+    let from = c.from.result in
     let tiles = take c.args.used c.args.tiles.now in
     let entries = take c.args.count c.args.operations.now in
     let kind = eq-eqb _ 3 (sym c.kind_in.ensures ∙ c.if-kind_in-eq3.true) in
     let inside : s.result < length l.deletes = omega arith in
     let back : i + 1 ≡ l.i = omega arith in
-    let near : Reaches is_delete (key_in (get_or entries i 0)) entries (i + 1) from = rw (back, c.start_of-from.ensures, s.ensures.0, c.key_in.ensures) (l.invariant.2 _) in
+    let near : Reaches is_delete (key_in (get_or entries i 0)) entries (i + 1) from = rw (back, c.from.ensures, s.ensures.0, c.key_in.ensures) (l.invariant.2 _) in
     let later : take (length entries - from) (drop from entries) ≡ drop from entries = grind (arith, common_steps) in
     let more = counted_more entries i (omega arith) c.args.whose tiles from {absent = l.absent} kind near (rw later at c.is_last_absent.ensures) (rw back l.invariant.3) in (
       search rules,

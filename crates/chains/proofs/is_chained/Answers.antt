@@ -10,7 +10,8 @@ use Rattle.chains.proofs.is_chained.Invariants.{each}
 pub loop-i-init : goal.loop-i-init
 loop-i-init c =
     let entries = take c.args.session.operations c.args.operations.now in
-    (refl, near_start each entries, rw (drop_of_length-le entries {i = length entries} (omega arith)))
+    let used : c.args.session.operations ≡ length entries = search (rules, arith) in
+    (refl, near_start each entries c.args.session.operations used, rw (drop_of_length-le entries {i = length entries} (omega arith)))
 
 pub returns-then-not-entry_chained : goal.returns-then-not-entry_chained
 returns-then-not-entry_chained c =
