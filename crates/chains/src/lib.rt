@@ -126,7 +126,8 @@ fn entry_chained(tiles: &[u32], used: usize, entries: &[u64], at: usize, from: u
 }
 
 // Whether the tiles are as the entries left them, by the rule that those of a job fail as one. From the last entry to the first, with the nearest later
-// entry of each slot, or the end: before it none has a tile of that slot.
+// entry of each slot, or the end: before it none has a tile of that slot. `count_absent` and `settling::is_settled` pass over the entries the same way, but
+// with another table and another question: one function that is handed these as closures would be no shorter, and its clauses would name them all.
 pub fn is_chained(session: Session, tiles: &[u32], operations: &[u64]) -> bool
     requires { TileTable tiles.now session.tiles × (session.operations ≤ length operations.now) × (session.operations ≤ 1024) }
     ensures { result ≡ settled_B Together (take session.tiles tiles.now) (take session.operations operations.now) }

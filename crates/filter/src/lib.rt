@@ -23,7 +23,7 @@ fn place_of(key: u32) -> (usize, usize)
 }
 
 // Whether a bit of a word of the filter is set.
-fn has_bit(word: u64, place: usize) -> bool
+pub fn has_bit(word: u64, place: usize) -> bool
     requires { place < 64 }
     ensures { result ≡ eqb (bit_in word place) 1 }
 {
@@ -31,7 +31,7 @@ fn has_bit(word: u64, place: usize) -> bool
 }
 
 // A word with one bit more set.
-fn with_bit(word: u64, place: usize) -> u64
+pub fn with_bit(word: u64, place: usize) -> u64
     requires { place < 64 }
     ensures { (bit_in result place ≡ 1) × ((k : ℕ) → bit_in word k ≡ 1 → bit_in result k ≡ 1) }
 {
