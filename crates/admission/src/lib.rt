@@ -9,7 +9,6 @@ ghost use Rattle.service.specs.World.{state, world};
 ghost use Rattle.rules.specs.Rules.{wants_place};
 ghost use Rattle.admission.specs.Verdicts.{verdict_of};
 
-use entries::Holder;
 use service::Session;
 use strict::Procedure;
 use tiles::Spot;
@@ -93,7 +92,7 @@ pub fn admit(
     let spot = tiles::find(tiles, count, key);
     let kind = kind(procedure, spot.there);
     let holder = rules::first_holder(rule, operations, used, job, kind, key);
-    if let Holder::At(place) = holder {
+    if let Some(place) = holder {
         let e = operations[place];
         return Verdict::Held {
             job: layout::job_in(e),

@@ -11,7 +11,6 @@ ghost use Rattle.rectangles.specs.Rectangles.{list_refusals, most_in_rectangle};
 ghost use Rattle.filter.specs.Filter.{Covers, elsewhere};
 ghost use Rattle.judging.specs.Looks.{list_of, look_of, room_for};
 
-use entries::Holder;
 use service::{OPERATION_SIZE, Reply, SHORT_SIZE, Session};
 use strict::Procedure;
 
@@ -46,7 +45,7 @@ fn look_at(
     let used = session.operations;
     let kind = admission::kind(procedure, tiles::is_present(tiles, count, key));
     let holder = rules::first_holder(rule, operations, used, job, kind, key);
-    if let Holder::At(place) = holder {
+    if let Some(place) = holder {
         let e = operations[place];
         return Seen::Held {
             job: layout::job_in(e),

@@ -10,7 +10,6 @@ ghost use Rattle.layout.specs.Whose.{meant};
 ghost use Rattle.entries.specs.Table.{first_place};
 ghost use Rattle.rules.specs.Rules.{holds_by, wants_place};
 
-use entries::Holder;
 use layout::Whose;
 use service::Session;
 use strict::Rule;
@@ -58,7 +57,7 @@ pub fn first_holder(
     job: u8,
     kind: usize,
     key: u32,
-) -> Holder
+) -> Option<usize>
     requires { (used ≤ length operations.now) × (1 ≤ kind) × (kind ≤ 6) }
     ensures { result ≡ first_place (holds_by rule job kind key) (take used operations.now) }
 {

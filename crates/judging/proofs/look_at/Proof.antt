@@ -34,10 +34,10 @@ held_by_lem c =
     ∙ ap (signed_at (used_operations (given c))) (sym (c.first_holder-holder.ensures ∙ of-kind))
 
 -- the holder's place is a used one
-place_there : (c : tie.In-At) → c.in-At.place < c.args.session.operations
+place_there : (c : tie.In-Some) → c.in-Some.place < c.args.session.operations
 place_there c =
     let f = c.before in
-    let inside = place_inside _ (used_operations (given f)) (sym f.first_holder-holder.ensures ∙ c.in-At.is) in
+    let inside = place_inside _ (used_operations (given f)) (sym f.first_holder-holder.ensures ∙ c.in-Some.is) in
     omega (arith, inside, length-take-le (given f).session.operations (given f).operations f.requires.operations_fit)
 
 -- there is none
@@ -73,14 +73,14 @@ job_in-requires c κs = search rules
 sheet_in-requires : tie.Need-sheet_in-requires
 sheet_in-requires c κs = search rules
 
-returns-in-At : tie.Need-returns-in-At
-returns-in-At c =
+returns-in-Some : tie.Need-returns-in-Some
+returns-in-Some c =
     let f = c.before.before.before.before in
     let h = c.before.before.before in
     let a = f.args in
     held _ _ a.job a.procedure a.key (record { job = c.job_in.result; sheet = c.sheet_in.result })
-    (held_by_lem f ∙ ap (signed_at (used_operations (given f))) h.in-At.is
-    ∙ ap (λ e. some (record { job = job_in e; sheet = sheet_in e })) (get_or-take a.session.operations a.operations.now h.in-At.place 0 (place_there h))
+    (held_by_lem f ∙ ap (signed_at (used_operations (given f))) h.in-Some.is
+    ∙ ap (λ e. some (record { job = job_in e; sheet = sheet_in e })) (get_or-take a.session.operations a.operations.now h.in-Some.place 0 (place_there h))
     ∙ (λ i. some (record { job = sym c.job_in.ensures i; sheet = sym c.sheet_in.ensures i })))
 
 enum_told-1 : tie.Need-enum_told-1
@@ -111,7 +111,7 @@ look_at_spec =
     bounds-operations-place
     job_in-requires
     sheet_in-requires
-    returns-in-At
+    returns-in-Some
     enum_told-1
     needs_place-requires
     returns)
