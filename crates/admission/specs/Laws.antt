@@ -1,5 +1,5 @@
 -- What the tables of a sound world are, and what each verdict rests on
-use Rattle.std.specs.Prelude.{Bool, ◌&&◌, cond, map, ◌≡◌, ◌+◌, ◌≤◌, ℕ, eqb, length}
+use Rattle.std.specs.Prelude.{Bool, ◌&&◌, cond, Result, Ok, Err, map, ◌≡◌, ◌+◌, ◌≤◌, ℕ, eqb, length}
 use Rattle.std.proofs.Math.Bool.{false, true}
 use Rattle.std.proofs.Math.Option.{Option, none, some}
 use Rattle.std.proofs.Common.{◌∙◌, ap₂, subst, sym, arith, length-take-le}
@@ -11,18 +11,22 @@ use Rattle.service.specs.Entry.{op_in}
 use Rattle.service.proofs.Laws.Storing.{padded_zeros}
 use Rattle.service.specs.Sound.{Tabled}
 use Rattle.service.specs.World.{World, state, used_operations, used_tiles}
-use Rattle.strict.specs.Book.{counted, held_by, needs_place, places_taken}
+use Rattle.strict.specs.Book.{Book, counted, held_by, needs_place, places_taken}
 use Rattle.strict.specs.Commutativity.{Signature}
 use Rattle.strict.proofs.Laws.Room.{room_either}
-use Rattle.strict.specs.Operations.{begun}
+use Rattle.strict.specs.Operations.{begun, kind}
 use Rattle.strict.specs.declared.Procedure.{Procedure}
+use Rattle.strict.specs.declared.Rule.{Rule}
 use Rattle.search.specs.Laws.{zeros_table}
 use Rattle.search.specs.Table.{TileTable}
 use Rattle.tiles.specs.Table.{spot_of}
 use Rattle.tiles.specs.declared.Spot.{Spot}
-use Rattle.admission.specs.Verdicts.{by_holder, verdict_of}
-use Rattle.admission.specs.declared.Verdict.TheVariants.{Admitted, Held, NoOperationRoom, NoTileRoom}
-use Rattle.admission.specs.declared.Verdict.{Verdict}
+use Rattle.admission.specs.Verdicts.{by_holder, held_or, unheld_of, verdict_of}
+use Rattle.admission.specs.declared.Holder.{Holder}
+use Rattle.rules.specs.Laws.{place_wanted}
+use Rattle.rules.specs.Rules.{wants_place}
+use Rattle.admission.specs.declared.Hindrance.TheVariants.{Held, NoOperationRoom, NoTileRoom}
+use Rattle.admission.specs.declared.Hindrance.{Hindrance}
 
 module _ (w : World) (o : Tabled w) where
   pub tile_table : TileTable w.tiles w.session.tiles
@@ -45,6 +49,23 @@ module _ (w : World) (o : Tabled w) where
   pub room_there : length (used_tiles w) + counted (used_tiles w) (map op_in (used_operations w)) ≤ length w.tiles
   room_there = omega (arith, room_either w.session.rule (state w).book, o.room)
 
+-- what is found where nobody holds, and who holds
+module _ (b : Rule) (m : Book) (job : ℕ) (p : Procedure) (k : ℕ) where
+  abbrev pub Finds : Result Spot Holder → Type 0
+  Finds (Err by) = held_by b m job p k ≡ some (record { job = by.job; sheet = by.sheet })
+  Finds (Ok x) = (held_by b m job p k ≡ none) × (x ≡ spot_of k m.tiles)
+
+  finds : Finds (unheld_of b m job p k)
+  unfolding unheld_of
+  finds = go (held_by b m job p k) refl
+    where
+      go : (o : Option Signature) → held_by b m job p k ≡ o → Finds (held_or o (spot_of k m.tiles))
+      go (some by) e = e
+      go none e = (e, refl)
+
+  pub found_so : (v u : Result Spot Holder) → v ≡ unheld_of b m job p k → v ≡ u → Finds u
+  found_so v u is seen = subst Finds (sym is ∙ seen) finds
+
 -- each verdict
 module _ (places slots : ℕ) (s : State) (job : ℕ) (p : Procedure) (k : ℕ) where
   abbrev pub the_holder : Option Signature
@@ -56,41 +77,46 @@ module _ (places slots : ℕ) (s : State) (job : ℕ) (p : Procedure) (k : ℕ) 
   abbrev pub lacks_slot : Bool
   lacks_slot = eqb (length s.book.table) slots
 
-  pub held : (by : Signature) → the_holder ≡ some by → Held by.job by.sheet ≡ verdict_of places slots s job p k
+  pub held : (by : Holder) → Finds s.rule s.book job p k (Err by) → Err (Held by) ≡ verdict_of places slots s job p k
   unfolding verdict_of
   held by h = rw h
 
-  module _ (free : the_holder ≡ none) where
-    pub no_place : lacks_place ≡ true → NoTileRoom ≡ verdict_of places slots s job p k
+  -- n is the kind that what is found gives, and b says whether a place is lacked by it
+  module _ (x : Spot) (found : Finds s.rule s.book job p k (Ok x)) {n : ℕ} {b : Bool} (of_kind : n ≡ kind p x.there)
+      (is : b ≡ (wants_place s.rule s.book.table n k && eqb (places_taken s.rule s.book) places)) where
+    lacking : lacks_place ≡ b
+    lacking = rw (place_wanted job p k s.book.tiles s.rule s.book.table, is, of_kind, found.1)
+
+    pub no_place : b ≡ true → Err NoTileRoom ≡ verdict_of places slots s job p k
     unfolding verdict_of
-    no_place h = rw (free, h)
+    no_place h = rw (found.0, lacking ∙ h)
 
-    module _ (place : lacks_place ≡ false) where
-      pub no_slot : lacks_slot ≡ true → NoOperationRoom ≡ verdict_of places slots s job p k
+    module _ (place : b ≡ false) where
+      pub no_slot : lacks_slot ≡ true → Err NoOperationRoom ≡ verdict_of places slots s job p k
       unfolding verdict_of
-      no_slot h = rw (free, place, h)
+      no_slot h = rw (found.0, lacking ∙ place, h)
 
-      pub admitted : (x : Spot) → x ≡ spot_of k s.book.tiles → lacks_slot ≡ false → Admitted x ≡ verdict_of places slots s job p k
+      pub admitted : lacks_slot ≡ false → Ok x ≡ verdict_of places slots s job p k
       unfolding verdict_of
-      admitted x is h = rw (free, place, h, is)
+      admitted h = rw (found.0, lacking ∙ place, h, found.1)
 
   -- what a verdict means
-  abbrev pub Means : Verdict → Type 0
-  Means (Held holding sheet) = the_holder ≡ some (record { job = holding; sheet = sheet })
-  Means NoTileRoom = (the_holder ≡ none) × (lacks_place ≡ true)
-  Means NoOperationRoom = (the_holder ≡ none) × (lacks_place ≡ false) × (lacks_slot ≡ true)
-  Means (Admitted x) = (the_holder ≡ none) × (lacks_place ≡ false) × (lacks_slot ≡ false) × (x ≡ spot_of k s.book.tiles)
+  abbrev pub Means : Result Spot Hindrance → Type 0
+  Means (Err (Held by)) = the_holder ≡ some (record { job = by.job; sheet = by.sheet })
+  Means (Err NoTileRoom) = (the_holder ≡ none) × (lacks_place ≡ true)
+  Means (Err NoOperationRoom) = (the_holder ≡ none) × (lacks_place ≡ false) × (lacks_slot ≡ true)
+  Means (Ok x) = (the_holder ≡ none) × (lacks_place ≡ false) × (lacks_slot ≡ false) × (x ≡ spot_of k s.book.tiles)
 
   verdict_means : Means (verdict_of places slots s job p k)
   unfolding verdict_of
   verdict_means = go the_holder refl lacks_place refl lacks_slot refl
     where
       go : (o : Option Signature) → the_holder ≡ o → (a : Bool) → lacks_place ≡ a → (b : Bool) → lacks_slot ≡ b
-          → Means (by_holder o (cond a NoTileRoom (cond b NoOperationRoom (Admitted (spot_of k s.book.tiles)))))
+          → Means (by_holder o (cond a (Err NoTileRoom) (cond b (Err NoOperationRoom) (Ok (spot_of k s.book.tiles)))))
       go (some by) x a y b z = x
       go none x true y b z = (x, y)
       go none x false y true z = (x, y, z)
       go none x false y false z = (x, y, z, refl)
 
-  pub verdict_seen : (v u : Verdict) → v ≡ verdict_of places slots s job p k → v ≡ u → Means u
+  pub verdict_seen : (v u : Result Spot Hindrance) → v ≡ verdict_of places slots s job p k → v ≡ u → Means u
   verdict_seen v u is seen = subst Means (sym is ∙ seen) verdict_means

@@ -7,44 +7,59 @@ ghost use Rattle.strict.specs.Operations as report;
 ghost use Rattle.service.specs.Sound.{Tabled};
 ghost use Rattle.service.specs.World.{state, world};
 ghost use Rattle.rules.specs.Rules.{wants_place};
-ghost use Rattle.admission.specs.Verdicts.{verdict_of};
+ghost use Rattle.admission.specs.Verdicts.{reply_of, unheld_of, verdict_of};
+ghost use Rattle.admission.specs.declared.Hindrance.TheVariants.{Held};
 
-use service::Session;
+use service::{Reply, Session};
 use strict::Procedure;
 use tiles::Spot;
 
-// Whether an operation is admitted, and what the search for its tile found; and if not, why.
+// Whose entry holds an operation: its job, and the sheet for which it was made.
 #[derive(Clone, Copy)]
-pub enum Verdict {
-    Admitted(Spot),
-    Held { job: u8, sheet: u16 },
+pub struct Holder {
+    pub job: u8,
+    pub sheet: u16,
+}
+
+// Why an operation is not admitted.
+#[derive(Clone, Copy)]
+pub enum Hindrance {
+    Held(Holder),
     NoTileRoom,
     NoOperationRoom,
+}
+
+impl From<Holder> for Hindrance {
+    ghost from_gives = { λ by h. h ≡ Held by };
+
+    fn from(by: Holder) -> Hindrance {
+        Hindrance::Held(by)
+    }
+}
+
+impl From<Hindrance> for Reply {
+    ghost from_gives = { λ why r. r ≡ reply_of why };
+
+    fn from(why: Hindrance) -> Reply {
+        match why {
+            Hindrance::Held(Holder { job, sheet }) => Reply::Held { job, sheet },
+            Hindrance::NoTileRoom => Reply::NoTileRoom,
+            Hindrance::NoOperationRoom => Reply::NoOperationRoom,
+        }
+    }
 }
 
 // The kind of an operation, by whether it found its tile.
 pub fn kind(procedure: Procedure, found: bool) -> usize
     ensures { result ≡ report.kind procedure found }
 {
-    match procedure {
-        Procedure::Ins => {
-            if found {
-                return 2;
-            }
-            1
-        }
-        Procedure::Del => {
-            if found {
-                return 3;
-            }
-            4
-        }
-        Procedure::Mem => {
-            if found {
-                return 5;
-            }
-            6
-        }
+    match (procedure, found) {
+        (Procedure::Ins, false) => 1,
+        (Procedure::Ins, true) => 2,
+        (Procedure::Del, true) => 3,
+        (Procedure::Del, false) => 4,
+        (Procedure::Mem, true) => 5,
+        (Procedure::Mem, false) => 6,
     }
 }
 
@@ -53,9 +68,35 @@ pub fn answer(procedure: Procedure, found: bool) -> bool
     ensures { result ≡ report.answer procedure found }
 {
     match procedure {
-        Procedure::Ins => true,
-        Procedure::Del => true,
+        Procedure::Ins | Procedure::Del => true,
         Procedure::Mem => found,
+    }
+}
+
+// What the search for the tile `key` found, or whose entry is the first that holds the operation.
+pub fn unheld(
+    session: Session,
+    tiles: &[u32],
+    operations: &[u64],
+    job: u8,
+    procedure: Procedure,
+    key: u32,
+) -> Result<Spot, Holder>
+    requires { Tabled (world session tiles.now operations.now []) }
+    ensures { result ≡ unheld_of session.rule (state (world session tiles.now operations.now [])).book job procedure key }
+{
+    let used = session.operations;
+    let spot = tiles::find(tiles, session.tiles, key);
+    let kind = kind(procedure, spot.there);
+    match rules::first_holder(session.rule, operations, used, job, kind, key) {
+        None => Ok(spot),
+        Some(place) => {
+            let e = operations[place];
+            Err(Holder {
+                job: layout::job_in(e),
+                sheet: layout::sheet_in(e),
+            })
+        }
     }
 }
 
@@ -65,15 +106,12 @@ fn lacks_place(session: Session, tiles: &[u32], operations: &[u64], kind: usize,
     ensures { result ≡ (wants_place session.rule (state (world session tiles.now operations.now [])).book.table kind key
         && eqb (places_taken session.rule (state (world session tiles.now operations.now [])).book) (length tiles.now)) }
 {
-    let rule = session.rule;
-    let used = session.operations;
-    if session.tiles + session.spoken < tiles.len() {
-        return false;
-    }
-    rules::needs_place(rule, operations, used, kind, key)
+    session.tiles + session.spoken >= tiles.len()
+        && rules::needs_place(session.rule, operations, session.operations, kind, key)
 }
 
 // Judges an operation and writes nothing: first the holder, then tile room, then operation room.
+// An operation that is admitted comes with what the search for its tile found.
 pub fn admit(
     session: Session,
     tiles: &[u32],
@@ -81,29 +119,18 @@ pub fn admit(
     job: u8,
     procedure: Procedure,
     key: u32,
-) -> Verdict
+) -> Result<Spot, Hindrance>
     requires { Tabled (world session tiles.now operations.now []) }
     ensures { result ≡ verdict_of (length tiles.now) (length operations.now)
         (state (world session tiles.now operations.now [])) job procedure key }
 {
-    let rule = session.rule;
-    let count = session.tiles;
-    let used = session.operations;
-    let spot = tiles::find(tiles, count, key);
+    let spot = unheld(session, tiles, operations, job, procedure, key)?;
     let kind = kind(procedure, spot.there);
-    let holder = rules::first_holder(rule, operations, used, job, kind, key);
-    if let Some(place) = holder {
-        let e = operations[place];
-        return Verdict::Held {
-            job: layout::job_in(e),
-            sheet: layout::sheet_in(e),
-        };
-    }
     if lacks_place(session, tiles, operations, kind, key) {
-        return Verdict::NoTileRoom;
+        return Err(Hindrance::NoTileRoom);
     }
-    if used == operations.len() {
-        return Verdict::NoOperationRoom;
+    if session.operations == operations.len() {
+        return Err(Hindrance::NoOperationRoom);
     }
-    Verdict::Admitted(spot)
+    Ok(spot)
 }

@@ -8,7 +8,7 @@ ghost use Rattle.service.specs.World.{reported, world};
 use grid::Address;
 use service::{Outcome, Reply, Session};
 use strict::{Procedure, Rule};
-use weighing::Decision;
+use weighing::Weighed;
 
 // A start that is refused: no job open, all counts 0, by the first rule.
 fn refused_start(reply: Reply) -> Outcome
@@ -68,9 +68,9 @@ pub fn operation(
     match weighing::operation_decision(
         session, tiles, operations, journal, job, procedure, address,
     ) {
-        Decision::Refuse(reply) => Outcome { reply, session },
-        Decision::Perform { spot, turns } => performing::carry_out(
+        Ok(Weighed { spot, turns }) => performing::carry_out(
             session, tiles, operations, journal, job, sheet, procedure, spot, turns,
         ),
+        Err(reply) => Outcome { reply, session },
     }
 }

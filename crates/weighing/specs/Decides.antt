@@ -1,5 +1,5 @@
 -- What a decision on an operation says of its refusals
-use Rattle.std.specs.Prelude.{false, List, ◌≡◌, ℕ, eqb, ℤ}
+use Rattle.std.specs.Prelude.{false, List, Result, Ok, Err, ◌≡◌, ℕ, eqb}
 use Rattle.strict.specs.declared.Procedure.{Procedure}
 use Rattle.grid.specs.Tile.{address_call}
 use Rattle.grid.specs.declared.Address.{Address}
@@ -8,16 +8,21 @@ use Rattle.service.specs.Told.{Refusal, decided, refused, told}
 use Rattle.service.specs.World.{World, used_tiles}
 use Rattle.service.specs.declared.Told.{Told}
 use Rattle.tiles.specs.Table.{spot_of}
-use Rattle.weighing.specs.declared.Decision.TheVariants.{Perform, Refuse}
-use Rattle.weighing.specs.declared.Decision.{Decision}
+use Rattle.tiles.specs.declared.Spot.{Spot}
+use Rattle.service.specs.declared.Reply.{Reply}
+use Rattle.weighing.specs.declared.Weighed.{Weighed}
 
--- a refusal is the reply that the refusals decide; where none applies, the operation is performed on that key, at its place among these tiles, with those turns
-abbrev pub Concludes : List Refusal → List ℕ → ℕ → ℤ → Decision → Type 0
-Concludes rs tiles key turns (Refuse reply) = ((t : Told) → told reply ≡ decided rs t) × (eqb (told reply).number 0 ≡ false)
-Concludes rs tiles key turns (Perform spot found) = (refused rs ≡ false) × (spot ≡ spot_of key tiles) × (found ≡ turns)
+-- the reply that refusals decide, of which one applies
+abbrev pub Refuses : List Refusal → Reply → Type 0
+Refuses rs reply = ((t : Told) → told reply ≡ decided rs t) × (eqb (told reply).number 0 ≡ false)
 
-abbrev pub Judges : World → ℕ → Procedure → ℕ → ℤ → Decision → Type 0
-Judges w job p k turns d = Concludes (keyed_refusals w job p k) (used_tiles w) k turns d
+-- where none applies, the operation is performed on the key k, at its place among the used tiles
+abbrev pub Judges : World → ℕ → Procedure → ℕ → Result Spot Reply → Type 0
+Judges w job p k (Err reply) = Refuses (keyed_refusals w job p k) reply
+Judges w job p k (Ok spot) = (refused (keyed_refusals w job p k) ≡ false) × (spot ≡ spot_of k (used_tiles w))
 
-abbrev pub Decides : World → ℕ → Procedure → Address → Decision → Type 0
-Decides w job p a d = Concludes (operation_refusals w job p a) (used_tiles w) (address_call a).key (address_call a).turns d
+-- and with the turns of the address
+abbrev pub Decides : World → ℕ → Procedure → Address → Result Weighed Reply → Type 0
+Decides w job p a (Err reply) = Refuses (operation_refusals w job p a) reply
+Decides w job p a (Ok weighed) =
+    (refused (operation_refusals w job p a) ≡ false) × (weighed.spot ≡ spot_of (address_call a).key (used_tiles w)) × (weighed.turns ≡ (address_call a).turns)

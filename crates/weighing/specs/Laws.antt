@@ -1,11 +1,11 @@
 -- What each test of an operation decides
-use Rattle.std.specs.Prelude.{Bool, ◌||◌, false, true, List, [], ◌++◌, ◌∷◌, ◌≡◌, refl, ◌*◌, ◌+◌, ℕ, eqb, ltb, pos, ℤ, length}
+use Rattle.std.specs.Prelude.{Bool, false, true, Result, Ok, Err, List, ◌∷◌, ◌≡◌, refl, ◌*◌, ◌+◌, ℕ, eqb, ltb, pos, ℤ, length}
 use Rattle.std.proofs.Common.{◌∙◌, ap, sym, eqb-true}
 use Rattle.std.proofs.lemmas.Bool.{not-false}
 use Rattle.strict.specs.declared.Procedure.{Procedure}
 use Rattle.grid.specs.Tile.{Placed, address_call, placed}
 use Rattle.grid.specs.declared.Address.{Address}
-use Rattle.grid.specs.declared.Located.TheVariants.{Key, NoEdition, Refused}
+use Rattle.grid.specs.declared.Located.TheVariants.{Key}
 use Rattle.service.specs.Admission.{open_marks}
 use Rattle.service.specs.Calls.{end_refusals, keyed_refusals, operation_refusals}
 use Rattle.service.specs.History.{committing}
@@ -15,51 +15,37 @@ use Rattle.service.proofs.Laws.Telling.{decided_done, decided_none, unrefused}
 use Rattle.service.specs.Limits.{operation_size, short_size}
 use Rattle.service.specs.Sound.{Sound, sound_B}
 use Rattle.service.specs.Told.{Refusal, decided, done, refuse, refused, told}
-use Rattle.service.specs.World.{World, free_bytes, state, used_tiles}
+use Rattle.service.specs.World.{World, free_bytes, state}
 use Rattle.service.specs.declared.Reply.TheVariants as reply
 use Rattle.service.specs.declared.Reply.{Reply}
 use Rattle.service.specs.declared.Told.{Told}
-use Rattle.tiles.specs.Table.{spot_of}
 use Rattle.tiles.specs.declared.Spot.{Spot}
 use Rattle.admission.specs.Laws.{Means}
-use Rattle.admission.specs.declared.Verdict.TheVariants.{Admitted, Held, NoOperationRoom, NoTileRoom}
-use Rattle.admission.specs.declared.Verdict.{Verdict}
+use Rattle.admission.specs.Verdicts.{reply_of}
+use Rattle.admission.specs.declared.Hindrance.TheVariants.{Held, NoOperationRoom, NoTileRoom}
+use Rattle.admission.specs.declared.Hindrance.{Hindrance}
 use Rattle.decisions.specs.Laws.{decided_append, gate_refuses}
 use Rattle.weighing.specs.Decides.{Decides, Judges}
-use Rattle.weighing.specs.declared.Decision.TheVariants.{Perform, Refuse}
-use Rattle.weighing.specs.declared.Decision.{Decision}
-
--- refusals that stand one after another
-refused_append : (rs qs : List Refusal) → refused rs ≡ false → refused qs ≡ false → refused (rs ++ qs) ≡ false
-refused_append [] qs h e = e
-refused_append (r ∷ rs) qs h e = go r.applies h (λ x. refused_append rs qs x e)
-  where
-    go : (b : Bool) → b || refused rs ≡ false → (refused rs ≡ false → refused (rs ++ qs) ≡ false) → b || refused (rs ++ qs) ≡ false
-    go true x ih = x
-    go false x ih = ih x
 
 -- AN OPERATION WITH A KEY
 module _ (w : World) (job : ℕ) (p : Procedure) (k : ℕ) where
-  abbrev pub Meaning : Verdict → Type 0
+  abbrev pub Meaning : Result Spot Hindrance → Type 0
   Meaning v = Means (length w.tiles) (length w.operations) (state w) job p k v
 
   abbrev no_bytes : Bool
   no_bytes = ltb (free_bytes w) (operation_size + short_size * open_marks w.session.marks)
 
-  pub judges_held : (turns : ℤ) (by sheet : ℕ) → Meaning (Held by sheet) → Judges w job p k turns (Refuse (reply.Held by sheet))
-  judges_held turns by sheet h = (λ t. rw h, refl)
+  pub judges_hindered : (why : Hindrance) → Meaning (Err why) → Judges w job p k (Err (reply_of why))
+  judges_hindered (Held by) h = (λ t. rw h, refl)
+  judges_hindered NoTileRoom h = (λ t. rw (h.0, h.1), refl)
+  judges_hindered NoOperationRoom h = (λ t. rw (h.0, h.1, h.2), refl)
 
-  pub judges_no_place : (turns : ℤ) → Meaning NoTileRoom → Judges w job p k turns (Refuse reply.NoTileRoom)
-  judges_no_place turns h = (λ t. rw (h.0, h.1), refl)
+  module _ (x : Spot) (h : Meaning (Ok x)) where
+    pub judges_no_bytes : no_bytes ≡ true → Judges w job p k (Err reply.NoJournalRoom)
+    judges_no_bytes n = (λ t. rw (h.0, h.1, h.2, n), refl)
 
-  pub judges_no_slot : (turns : ℤ) → Meaning NoOperationRoom → Judges w job p k turns (Refuse reply.NoOperationRoom)
-  judges_no_slot turns h = (λ t. rw (h.0, h.1, h.2), refl)
-
-  pub judges_no_bytes : (turns : ℤ) (x : Spot) → Meaning (Admitted x) → no_bytes ≡ true → Judges w job p k turns (Refuse reply.NoJournalRoom)
-  judges_no_bytes turns x h n = (λ t. rw (h.0, h.1, h.2, n), refl)
-
-  pub judges_perform : (turns found : ℤ) (x : Spot) → Meaning (Admitted x) → no_bytes ≡ false → found ≡ turns → Judges w job p k turns (Perform x found)
-  judges_perform turns found x h n is = (rw (h.0, h.1, h.2, n), h.3, is)
+    pub judges_perform : no_bytes ≡ false → Judges w job p k (Ok x)
+    judges_perform n = (rw (h.0, h.1, h.2, n), h.3)
 
 -- AN OPERATION: its first three refusals are those of an end, then 14 and 5, then the last
 module _ (w : World) (job : ℕ) (p : Procedure) (a : Address) where
@@ -67,7 +53,7 @@ module _ (w : World) (job : ℕ) (p : Procedure) (a : Address) where
   rest = refuse 14 (eqb (address_call a).number 14) ∷ refuse 5 (eqb (address_call a).number 5) ∷ keyed_refusals w job p (address_call a).key
 
   -- where the gate refuses
-  pub decides_gate : (r : Reply) → told r ≡ decided (end_refusals w job) (done false (pos 0)) → eqb (told r).number 0 ≡ false → Decides w job p a (Refuse r)
+  pub decides_gate : (r : Reply) → told r ≡ decided (end_refusals w job) (done false (pos 0)) → eqb (told r).number 0 ≡ false → Decides w job p a (Err r)
   decides_gate r h n =
       (λ t. h ∙ gate_refuses (end_refusals w job) (done false (pos 0)) (decided rest t) refl (ap (λ (x : Told). eqb x.number 0) (sym h) ∙ n) ∙ sym (decided_append (end_refusals w job) rest t), n)
 
@@ -88,16 +74,5 @@ module _ (w : World) (job : ℕ) (p : Procedure) (a : Address) where
         ap (λ (y : Placed). decided (following y) t) same
         ∙ sym (decided_append (end_refusals w job) rest t ∙ decided_none (end_refusals w job) (decided rest t) (gate_passed gate is zero))
 
-    pub decides_no_edition : placed NoEdition ≡ address_call a → Decides w job p a (Refuse reply.NoEdition)
-    decides_no_edition h = (after_gate (placed NoEdition) h, refl)
-
-    pub decides_no_key : placed Refused ≡ address_call a → Decides w job p a (Refuse reply.OutOfRange)
-    decides_no_key h = (after_gate (placed Refused) h, refl)
-
-    pub decides_judged : (k : ℕ) (turns : ℤ) (d : Decision) → placed (Key k turns) ≡ address_call a → Judges w job p k turns d → Decides w job p a d
-    decides_judged k turns (Refuse r) h j = (λ t. j.0 t ∙ after_gate (placed (Key k turns)) h t, j.1)
-    decides_judged k turns (Perform spot found) h j = (
-      refused_append (end_refusals w job) rest (gate_passed gate is zero) (ap (λ (x : Placed). refused (following x)) (sym h) ∙ j.0),
-      j.1 ∙ ap (λ (x : Placed). spot_of x.key (used_tiles w)) h,
-      j.2 ∙ ap (λ (x : Placed). x.turns) h,
-    )
+    pub decides_refused : (k : ℕ) (turns : ℤ) → placed (Key k turns) ≡ address_call a → (r : Reply) → Judges w job p k (Err r) → Decides w job p a (Err r)
+    decides_refused k turns h r j = (λ t. j.0 t ∙ after_gate (placed (Key k turns)) h t, j.1)
