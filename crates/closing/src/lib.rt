@@ -37,8 +37,7 @@ fn affect_counting(tiles: &mut [u32], tally: Tally, procedure: Procedure, spot: 
     ensures { (result ≡ tally_of (report.apply (report.effect procedure) spot.key (take tally.tiles tiles.old)))
         × (tiles.new ≡ padded (length tiles.old) (report.apply (report.effect procedure) spot.key (take tally.tiles tiles.old))) }
 {
-    let count = tally.tiles;
-    engine::affect(tiles, count, procedure, spot);
+    engine::affect(tiles, tally.tiles, procedure, spot);
     levels::after(tally, procedure, spot)
 }
 
@@ -48,18 +47,13 @@ fn recover(tiles: &mut [u32], tally: Tally, e: u64) -> Tally
     ensures { (result ≡ tally_of (recovered e (take tally.tiles tiles.old)))
         × (tiles.new ≡ padded (length tiles.old) (recovered e (take tally.tiles tiles.old))) }
 {
-    let kind = layout::kind_in(e);
-    let key = layout::key_in(e);
-    let count = tally.tiles;
-    if kind == 1 {
-        let added = tiles::find(tiles, count, key);
-        return affect_counting(tiles, tally, Procedure::Del, added);
+    match restoring::recovery(layout::kind_in(e)) {
+        Some(procedure) => {
+            let spot = tiles::find(tiles, tally.tiles, layout::key_in(e));
+            affect_counting(tiles, tally, procedure, spot)
+        }
+        None => tally,
     }
-    if kind == 3 {
-        let taken = tiles::find(tiles, count, key);
-        return affect_counting(tiles, tally, Procedure::Ins, taken);
-    }
-    tally
 }
 
 // Runs the recoveries of a job's entries, newest first, one after another. Answers what is counted of the tiles after them.
@@ -69,9 +63,7 @@ fn undo_each(tiles: &mut [u32], tally: Tally, operations: &[u64], used: usize, j
         × (tiles.new ≡ padded (length tiles.old) (recovered_job job (take used operations.now) (take tally.tiles tiles.old))) }
 {
     let mut left = tally;
-    let mut i = used;
-    while 0 < i {
-        i -= 1;
+    for i in (0..used).rev() {
         let e = operations[i];
         if layout::job_in(e) == job {
             left = recover(tiles, left, e);
@@ -84,18 +76,11 @@ fn undo_each(tiles: &mut [u32], tally: Tally, operations: &[u64], used: usize, j
 fn has_many(operations: &[u64], used: usize, job: u8) -> bool
     requires { used ≤ length operations.now }
 {
-    let mut left = MANY;
-    let mut i: usize = 0;
-    while i < used {
-        if layout::job_in(operations[i]) == job {
-            left -= 1;
-            if left == 0 {
-                return true;
-            }
-        }
-        i += 1;
-    }
-    false
+    let own = operations[..used]
+        .iter()
+        .filter(|e| layout::job_in(**e) == job)
+        .count();
+    own >= MANY
 }
 
 // Runs the recoveries of a job's entries, newest first: one after another where they are few, and else all at once.
@@ -105,9 +90,10 @@ fn undo(tiles: &mut [u32], tally: Tally, operations: &[u64], used: usize, job: u
         × (tiles.new ≡ padded (length tiles.old) (recovered_job job (take used operations.now) (take tally.tiles tiles.old))) }
 {
     if has_many(operations, used, job) {
-        return restoring::restore(tiles, tally, operations, used, job);
+        restoring::restore(tiles, tally, operations, used, job)
+    } else {
+        undo_each(tiles, tally, operations, used, job)
     }
-    undo_each(tiles, tally, operations, used, job)
 }
 
 // The places spoken for without what a job's deletes speak for.
@@ -115,8 +101,7 @@ fn spoken_without(session: Session, tiles: &[u32], operations: &[u64], job: u8) 
     requires { Tabled (world session tiles.now operations.now []) }
     ensures { result ≡ spoken_by session.rule (take session.tiles tiles.now) (others job (map op_in (take session.operations operations.now))) }
 {
-    let spoken = session.spoken;
-    spoken - rules::count_spoken(session, tiles, operations, Whose::Jobs(job))
+    session.spoken - rules::count_spoken(session, tiles, operations, Whose::Jobs(job))
 }
 
 // Takes a job's entries away and closes it, where so many places are spoken for without them.
@@ -125,11 +110,9 @@ fn clear_job(session: Session, operations: &mut [u64], job: u8, spoken: usize) -
     ensures { (result ≡ closed session job (length (without_job job (take session.operations operations.old))) spoken)
         × (operations.new ≡ padded (length operations.old) (without_job job (take session.operations operations.old))) }
 {
-    let place = job as usize;
-    let used = session.operations;
-    let left = entries::close_gaps(operations, used, job);
+    let left = entries::close_gaps(operations, session.operations, job);
     let mut next = session;
-    next.marks[place] = false;
+    next.marks[usize::from(job)] = false;
     next.operations = left;
     next.spoken = spoken;
     next
@@ -153,9 +136,9 @@ pub fn abort_job(session: Session, tiles: &mut [u32], operations: &mut [u64], jo
         ≡ with_state (world session tiles.old operations.old [])
         (perform (state (world session tiles.old operations.old [])) (abort job)) }
 {
-    let used = session.operations;
     let spoken = spoken_without(session, tiles, operations, job);
-    let left = undo(tiles, engine::tally_of(session), operations, used, job);
+    let tally = engine::tally_of(session);
+    let left = undo(tiles, tally, operations, session.operations, job);
     let next = clear_job(session, operations, job, spoken);
     engine::counting(next, left)
 }

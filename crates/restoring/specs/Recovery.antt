@@ -1,8 +1,10 @@
 -- The recoveries of a job's entries, in the numbers that the code moves
-use Rattle.std.specs.Prelude.{cond, true, List, [], ◌∷◌, map, ◌≡◌, ◌+◌, ◌≤◌, ℕ, eqb, drop, length, take}
+use Rattle.std.specs.Prelude.{None, Option, Some, cond, true, List, [], ◌∷◌, map, ◌≡◌, ◌+◌, ◌≤◌, ℕ, eqb, drop, length, take}
 use Rattle.lists.specs.Lists.{All}
 use Rattle.strict.specs.Book.{counted}
 use Rattle.strict.specs.Tiles.{delete, insert_tile}
+use Rattle.strict.specs.declared.Procedure.TheVariants.{Del, Ins}
+use Rattle.strict.specs.declared.Procedure.{Procedure}
 use Rattle.grid.specs.Tile.{is_key}
 use Rattle.service.specs.Entry.{job_in, key_in, kind_in, op_in}
 use Rattle.service.specs.Limits.{most_operations, most_tiles}
@@ -13,6 +15,10 @@ use Rattle.levels.specs.declared.Tally.{Tally}
 -- one entry's recovery: kind 1 is undone by del, kind 3 by ins, the others by nothing
 abbrev pub recovered : ℕ → List ℕ → List ℕ
 recovered e t = cond (eqb (kind_in e) 1) (delete (key_in e) t) (cond (eqb (kind_in e) 3) (insert_tile (key_in e) t) t)
+
+-- the procedure that undoes an entry of a kind
+abbrev pub recovery_of : ℕ → Option Procedure
+recovery_of n = cond (eqb n 1) (Some Del) (cond (eqb n 3) (Some Ins) None)
 
 -- those of a job's entries, newest first
 abbrev pub recovered_job : ℕ → List ℕ → List ℕ → List ℕ

@@ -3,7 +3,6 @@
 
 ghost use Rattle.std.specs.Prelude.{false, not, true, ◌≡◌, ◌+◌, ◌<◌, ◌≤◌, get_or, length, take};
 ghost use Rattle.lists.specs.Lists.{padded};
-ghost use Rattle.lists.specs.Truth.{one_if};
 ghost use Rattle.strict.specs.Operations as report;
 ghost use Rattle.strict.specs.Tiles.{member};
 ghost use Rattle.grid.specs.Tile.{is_key};
@@ -12,7 +11,7 @@ ghost use Rattle.search.specs.Table.{TileTable};
 ghost use Rattle.runs.specs.Runs.{Kept};
 ghost use Rattle.levels.specs.Tally.{Movable, tally_after, tally_of};
 ghost use Rattle.restoring.specs.Notes.{Blank, MayNote, Foretold, marked_by, restored_by, unmarked};
-ghost use Rattle.restoring.specs.Recovery.{Undoable, recovered, recovered_job};
+ghost use Rattle.restoring.specs.Recovery.{Undoable, recovered, recovered_job, recovery_of};
 
 use levels::Tally;
 use service::{MOST_OPERATIONS, MOST_TILES};
@@ -32,12 +31,8 @@ fn mark(marks: &mut [bool], at: usize, procedure: Procedure)
     ensures { marks.new ≡ marked_by procedure at marks.old }
 {
     match procedure {
-        Procedure::Ins => {
-            marks[at] = false;
-        }
-        Procedure::Del => {
-            marks[at] = true;
-        }
+        Procedure::Ins => marks[at] = false,
+        Procedure::Del => marks[at] = true,
         Procedure::Mem => {}
     }
 }
@@ -48,18 +43,13 @@ fn note_present(marks: &mut [bool], notes: Notes, procedure: Procedure, spot: Sp
     ensures { (result.tally ≡ tally_after notes.tally procedure spot.key (not (get_or marks.old spot.at false)))
         × (result.coming ≡ notes.coming) × (marks.new ≡ marked_by procedure spot.at marks.old) }
 {
-    let at = spot.at;
     let noted = Spot {
-        key: spot.key,
-        at,
-        there: !marks[at],
+        there: !marks[spot.at],
+        ..spot
     };
-    mark(marks, at, procedure);
+    mark(marks, spot.at, procedure);
     let tally = levels::after(notes.tally, procedure, noted);
-    Notes {
-        tally,
-        coming: notes.coming,
-    }
+    Notes { tally, ..notes }
 }
 
 // Notes a procedure on a tile that is not in the table, which will be there if it comes back.
@@ -70,9 +60,8 @@ fn note_absent(back: &mut [u32], notes: Notes, procedure: Procedure, key: u32) -
         × (result.coming ≡ length (report.apply (report.effect procedure) key (take notes.coming back.old)))
         × (back.new ≡ padded (length back.old) (report.apply (report.effect procedure) key (take notes.coming back.old))) }
 {
-    let before = notes.coming;
-    let awaited = tiles::find(back, before, key);
-    let coming = engine::affect(back, before, procedure, awaited);
+    let awaited = tiles::find(back, notes.coming, key);
+    let coming = engine::affect(back, notes.coming, procedure, awaited);
     let tally = levels::after(notes.tally, procedure, awaited);
     Notes { tally, coming }
 }
@@ -94,9 +83,21 @@ fn note(
 {
     let spot = tiles::find(tiles, count, key);
     if spot.there {
-        return note_present(marks, notes, procedure, spot);
+        note_present(marks, notes, procedure, spot)
+    } else {
+        note_absent(back, notes, procedure, key)
     }
-    note_absent(back, notes, procedure, key)
+}
+
+// The procedure that undoes what an entry of a kind did to the tiles.
+pub fn recovery(kind: usize) -> Option<Procedure>
+    ensures { result ≡ recovery_of kind }
+{
+    match kind {
+        1 => Some(Procedure::Del),
+        3 => Some(Procedure::Ins),
+        _ => None,
+    }
 }
 
 // Notes one entry's recovery.
@@ -113,15 +114,18 @@ fn note_recovery(
         (recovered e (restored_by tiles.now count marks.old back.old notes)) marks.new back.new result
         × (result.coming ≤ notes.coming + 1) }
 {
-    let kind = layout::kind_in(e);
-    let key = layout::key_in(e);
-    if kind == 1 {
-        return note(tiles, count, marks, back, notes, Procedure::Del, key);
+    match recovery(layout::kind_in(e)) {
+        Some(procedure) => note(
+            tiles,
+            count,
+            marks,
+            back,
+            notes,
+            procedure,
+            layout::key_in(e),
+        ),
+        None => notes,
     }
-    if kind == 3 {
-        return note(tiles, count, marks, back, notes, Procedure::Ins, key);
-    }
-    notes
 }
 
 // Notes the recoveries of a job's entries, newest first.
@@ -138,27 +142,14 @@ fn note_job(
     ensures { Foretold tiles.now tally.tiles
         (recovered_job job (take used operations.now) (take tally.tiles tiles.now)) marks.new back.new result }
 {
-    let count = tally.tiles;
     let mut notes = Notes { tally, coming: 0 };
-    let mut i = used;
-    while 0 < i {
-        i -= 1;
+    for i in (0..used).rev() {
         let e = operations[i];
         if layout::job_in(e) == job {
-            notes = note_recovery(tiles, count, marks, back, notes, e);
+            notes = note_recovery(tiles, tally.tiles, marks, back, notes, e);
         }
     }
     notes
-}
-
-// 0 for a tile that is marked, 1 for one that stays.
-fn stays(mark: bool) -> usize
-    ensures { result ≡ one_if (not mark) }
-{
-    if mark {
-        return 0;
-    }
-    1
 }
 
 // Moves the tiles that have no mark to the front, and answers how many they are. A tile that does not stay is written and not counted: no branch
@@ -168,11 +159,9 @@ fn move_up(tiles: &mut [u32], count: usize, marks: &[bool]) -> usize
     ensures { Kept (unmarked marks.now (take count tiles.old)) tiles.old count tiles.new result }
 {
     let mut left: usize = 0;
-    let mut i: usize = 0;
-    while i < count {
+    for i in 0..count {
         tiles[left] = tiles[i];
-        left += stays(marks[i]);
-        i += 1;
+        left += usize::from(!marks[i]);
     }
     left
 }
@@ -195,10 +184,14 @@ fn move_noted(tiles: &mut [u32], count: usize, marks: &[bool], back: &[u32], not
     ensures { tiles.new
         ≡ padded (length tiles.old) (restored_by tiles.old count marks.now back.now notes) }
 {
-    let coming = notes.coming;
-    let total = notes.tally.tiles;
     let left = sweep(tiles, count, marks);
-    runs::affect_run(tiles, left, Procedure::Ins, &back[..coming], total);
+    runs::affect_run(
+        tiles,
+        left,
+        Procedure::Ins,
+        &back[..notes.coming],
+        notes.tally.tiles,
+    );
 }
 
 // Notes what a job's recoveries do to the tiles, and does it.
@@ -215,9 +208,8 @@ fn restore_by(
     ensures { (result ≡ tally_of (recovered_job job (take used operations.now) (take tally.tiles tiles.old)))
         × (tiles.new ≡ padded (length tiles.old) (recovered_job job (take used operations.now) (take tally.tiles tiles.old))) }
 {
-    let count = tally.tiles;
     let notes = note_job(tiles, tally, marks, back, operations, used, job);
-    move_noted(tiles, count, marks, back, notes);
+    move_noted(tiles, tally.tiles, marks, back, notes);
     notes.tally
 }
 

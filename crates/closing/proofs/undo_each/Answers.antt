@@ -1,18 +1,11 @@
 -- `closing::undo_each` meets its contract: at each turn the entries from i on have been undone
-use mathlib.Core.Path.{◌∙◌, ◌≡◌, sym}
-use native.Mathlib.Omega.{arith}
+use Rattle.std.proofs.Common.{◌∙◌, sym}
 use Rattle.restoring.specs.Laws.{entry_valid}
 use Rattle.closing.proofs.Downward.{begins, passes, recovers, recovery_fits, same_places, tallied_now}
 use Rattle.closing.proofs.undo_each.Goals as goal
 
 pub loop-i-init : goal.loop-i-init
 loop-i-init c = begins c.requires c.args.job
-
-pub offset_bounds-operations-i : goal.offset_bounds-operations-i
-offset_bounds-operations-i c = omega (arith, c.loop-i.invariant.inside, c.requires.inside)
-
-pub bounds-operations-i : goal.bounds-operations-i
-bounds-operations-i c = omega (arith, c.loop-i.invariant.inside, c.requires.inside)
 
 pub recover-left-requires : goal.recover-left-requires
 recover-left-requires c =
@@ -31,12 +24,3 @@ loop-i-preserved-then-job_in-job c =
 pub loop-i-preserved : goal.loop-i-preserved
 loop-i-preserved c =
     passes c.requires c.args.job c.loop-i.invariant c.loop-i-test.true (λ e. c.if-job_in-job.false (c.job_in.ensures ∙ e))
-
-pub shape_of-tiles : goal.shape_of-tiles
-shape_of-tiles c = same_places c.requires c.args.job c.loop-i.invariant
-
-pub returns : goal.returns
-returns c =
-    let none : c.loop-i.i ≡ 0 = omega arith in
-    let inv = rw none at c.loop-i.invariant in
-    (inv.number, inv.holds)

@@ -1,9 +1,6 @@
 use Rattle.closing.proofs.Downward.{Undoing}
 use Rattle.closing.proofs.undo_each.Given as goal
 
--- `closing::undo_each` meets its contract: at each turn the entries from i on have been undone
+-- at each turn the entries from i on have been undone
 abbrev pub invariant-loop-i : goal.invariant-loop-i
 invariant-loop-i l = Undoing l.i l.initial.tiles l.initial.left l.operations l.used l.job l.tiles l.left
-
-abbrev pub decreases-loop-i : goal.decreases-loop-i
-decreases-loop-i l = l.i

@@ -1,18 +1,11 @@
 -- `restoring::note_job` meets its contract: at each turn the entries from i on have been noted
-use mathlib.Core.Path.{◌∙◌, ◌≡◌, sym}
-use native.Mathlib.Omega.{arith}
+use Rattle.std.proofs.Common.{◌∙◌, sym}
 use Rattle.restoring.proofs.Downward.{begins, may_note, passes, takes}
 use Rattle.restoring.specs.Laws.{entry_valid}
 use Rattle.restoring.proofs.note_job.Goals as goal
 
 pub loop-i-init : goal.loop-i-init
 loop-i-init c = begins c.requires.0 c.args.job c.requires.1
-
-pub offset_bounds-operations-i : goal.offset_bounds-operations-i
-offset_bounds-operations-i c = omega (arith, c.loop-i.invariant.inside, c.requires.0.inside)
-
-pub bounds-operations-i : goal.bounds-operations-i
-bounds-operations-i c = omega (arith, c.loop-i.invariant.inside, c.requires.0.inside)
 
 pub note_recovery-notes-requires : goal.note_recovery-notes-requires
 note_recovery-notes-requires c =
@@ -23,19 +16,8 @@ note_recovery-notes-requires c =
 pub loop-i-preserved-then-job_in-job : goal.loop-i-preserved-then-job_in-job
 loop-i-preserved-then-job_in-job c =
     takes c.requires.0 c.args.job c.requires.1 c.loop-i.invariant c.loop-i-test.true
-    (sym c.job_in.ensures ∙ c.if-job_in-job.true) _ _ _ c.marks-1.given c.back-1.given c.note_recovery-notes.ensures
+    (sym c.job_in.ensures ∙ c.if-job_in-job.true) _ _ _ c.note_recovery-notes.auto.marks c.note_recovery-notes.auto.back c.note_recovery-notes.ensures
 
 pub loop-i-preserved : goal.loop-i-preserved
 loop-i-preserved c =
     passes c.requires.0 c.args.job c.requires.1 c.loop-i.invariant c.loop-i-test.true (λ e. c.if-job_in-job.false (c.job_in.ensures ∙ e))
-
-pub shape_of-marks : goal.shape_of-marks
-shape_of-marks c = c.loop-i.invariant.same_marks
-
-pub shape_of-back : goal.shape_of-back
-shape_of-back c = c.loop-i.invariant.same_back
-
-pub returns : goal.returns
-returns c =
-    let none : c.loop-i.i ≡ 0 = omega arith in
-    rw none at c.loop-i.invariant.noted
