@@ -28,12 +28,10 @@ fn place_run(
     ensures { world result tiles.new operations.new journal.new
         ≡ carried_all (world session tiles.old operations.old journal.old) job sheet procedure keys.now }
 {
-    let count = session.tiles;
     let reached = noting::note_all(
         session, tiles, operations, journal, job, sheet, procedure, keys,
     );
-    let left = reached.tiles;
-    runs::affect_run(tiles, count, procedure, keys, left);
+    runs::affect_run(tiles, session.tiles, procedure, keys, reached.tiles);
     reached
 }
 
@@ -57,6 +55,7 @@ fn place_all(
 {
     let mut reached = session;
     let mut i: usize = 0;
+    // a step is a run, and where it ends is found on the way: no `for` goes by such steps
     while i < n {
         let end = runs::run_end(keys, i, n);
         reached = place_run(
