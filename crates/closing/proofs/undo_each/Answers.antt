@@ -1,7 +1,7 @@
 -- `closing::undo_each` meets its contract: at each turn the entries from i on have been undone
 use Rattle.std.proofs.Common.{◌∙◌, sym}
 use Rattle.restoring.specs.Laws.{entry_valid}
-use Rattle.closing.proofs.Downward.{begins, passes, recovers, recovery_fits, same_places, tallied_now}
+use Rattle.closing.proofs.Downward.{begins, passes, recovers, recovery_fits, tallied_now}
 use Rattle.closing.proofs.undo_each.Goals as goal
 
 pub loop-i-init : goal.loop-i-init
