@@ -1,9 +1,0 @@
--- Each number ends inside the line.
-use Rattle.std.proofs.Common.{length, ◌-◌, ◌≤◌}
-use Rattle.script.proofs.with_numbers.Given as goal
-
-abbrev pub invariant-loop-at : goal.invariant-loop-at
-invariant-loop-at l = l.at ≤ length l.line
-
-abbrev pub decreases-loop-at : goal.decreases-loop-at
-decreases-loop-at l = length l.line - l.at
