@@ -1,136 +1,92 @@
 // A line of the console taken apart: a word and its numbers, separated by exactly one space, with nothing before or after.
 #![tactic(auto)]
 
-ghost use Rattle.std.specs.Prelude.{◌≤◌, length};
-
-pub use lines::{Unfinished, find, keep};
-use numbers::Number;
-use words::MOST_NUMBERS;
-pub use words::Word;
+pub use lines::{Unfinished, keep};
+pub use parsing::parse;
+use sanbirogu::{Address, Change, Procedure, Rectangle};
 
 mod lines;
-mod numbers;
+mod parsing;
 mod words;
 
-// A word and its numbers: how many there are, how large, and which have a `-` before them.
+// What a line asks for. Each number is of the type that it stands for, and what it means is left to whoever answers.
 #[derive(Clone, Copy)]
-pub struct Command {
-    pub word: Word,
-    pub count: usize,
-    pub values: [u64; MOST_NUMBERS],
-    pub negative: [bool; MOST_NUMBERS],
+pub enum Command {
+    Lend(Places),
+    OnLent(Request),
 }
 
-// Whether the number at a place is of the type that stands there; where there is no number, that there is no type.
-fn fits_at(command: Command, types: [u8; MOST_NUMBERS], i: usize) -> bool {
-    if MOST_NUMBERS <= i {
-        return false;
-    }
-    if command.count <= i {
-        return types[i] == b'-';
-    }
-    words::is_of(types[i], command.values[i], command.negative[i])
+// So many places of each table.
+#[derive(Clone, Copy)]
+pub struct Places {
+    pub tiles: usize,
+    pub operations: usize,
+    pub journal: usize,
 }
 
-// Whether a command has as many numbers as its word asks for, each of its type.
-fn is_whole(command: Command) -> bool {
-    let word = command.word;
-    let types = words::types_of(word);
-    let mut i: usize = 0;
-    while i < MOST_NUMBERS {
-        if !fits_at(command, types, i) {
-            return false;
-        }
-        i += 1;
-    }
-    true
+// What is asked of the session and the places that are lent.
+#[derive(Clone, Copy)]
+pub enum Request {
+    Show,
+    Look(Look),
+    Call(Call),
+    Put(Put),
 }
 
-// A word with no number yet.
-fn lone(word: Word) -> Command {
-    Command {
-        word,
-        count: 0,
-        values: [0; MOST_NUMBERS],
-        negative: [false; MOST_NUMBERS],
-    }
+// What leaves tables and session as they are.
+#[derive(Clone, Copy)]
+pub enum Look {
+    Address(Address),
+    Read(usize),
+    Replay {
+        count: usize,
+        length: usize,
+    },
+    Mend {
+        count: usize,
+        length: usize,
+        room: usize,
+    },
+    Levels,
+    Sum,
+    Help,
 }
 
-// A command with one more number, if one has so many.
-fn with_number(command: Command, value: u64, negative: bool) -> Command {
-    let count = command.count;
-    if MOST_NUMBERS <= count {
-        return lone(Word::Unknown);
-    }
-    let mut longer = command;
-    longer.values[count] = value;
-    longer.negative[count] = negative;
-    longer.count = count + 1;
-    longer
+// The calls on a session.
+#[derive(Clone, Copy)]
+pub enum Call {
+    Start {
+        count: usize,
+        rule: u8,
+    },
+    Open(u8),
+    Commit(u8),
+    Abort(u8),
+    Operation {
+        job: u8,
+        sheet: u16,
+        procedure: Procedure,
+        address: Address,
+    },
+    Rectangle {
+        job: u8,
+        sheet: u16,
+        change: Change,
+        area: Rectangle,
+    },
 }
 
-// A word with the numbers that stand from a place on.
-fn with_numbers(word: Word, line: &[u8], from: usize) -> Command
-    requires { from ≤ length line.now }
-{
-    let mut command = lone(word);
-    let mut at = from;
-    while at < line.len() {
-        let end = find(line, at + 1, b' ');
-        match numbers::number_in(line, at + 1, end) {
-            Number::Nothing => return lone(Word::Unknown),
-            Number::Value { value, negative } => {
-                command = with_number(command, value, negative);
-                at = end;
-            }
-        }
-    }
-    command
-}
-
-// What a line says. Whatever is no command is unknown.
-pub fn parse(line: &[u8]) -> Command {
-    let end = find(line, 0, b' ');
-    let command = with_numbers(words::call_word(line, end), line, end);
-    if !is_whole(command) {
-        return lone(Word::Unknown);
-    }
-    command
-}
-
-// The numbers of a command, whose types parse has seen to.
-
-// The first number as a job, a byte at any place, and the second number as a sheet.
-pub fn job_of(command: Command) -> u8 {
-    (command.values[0] % 256) as u8
-}
-
-pub fn byte_of(value: u64) -> u8 {
-    (value % 256) as u8
-}
-
-pub fn sheet_of(command: Command) -> u16 {
-    (command.values[1] % 65536) as u16
-}
-
-pub fn first(command: Command) -> usize {
-    command.values[0] as usize
-}
-
-pub fn second(command: Command) -> usize {
-    command.values[1] as usize
-}
-
-pub fn third(command: Command) -> usize {
-    command.values[2] as usize
-}
-
-// A number with its sign.
-pub fn signed(value: u64, negative: bool) -> i32 {
-    let size = value % 4294967296;
-    if negative {
-        let below = ((size + 2147483647) % 2147483648) as i32;
-        return -1 - below;
-    }
-    (size % 2147483648) as i32
+// What changes a table or the session from outside.
+#[derive(Clone, Copy)]
+pub enum Put {
+    Tile { place: usize, key: u32 },
+    Entry { place: usize, entry: u64 },
+    Byte { place: usize, byte: u8 },
+    Tiles(usize),
+    Operations(usize),
+    Journal(usize),
+    Spoken(usize),
+    Mark { job: u8, bit: u8 },
+    Rule(u8),
+    Level { zoom: u8, count: usize },
 }

@@ -1,40 +1,11 @@
-// Lines in a space that is read into: where they end, and what is kept of one that has not ended yet.
-ghost use Rattle.std.specs.Prelude.{◌≡◌, ◌*◌, ◌+◌, ◌-◌, ◌≤◌, length};
+// Lines in a space that is read into: what is kept of one that has not ended yet.
+ghost use Rattle.std.specs.Prelude.{◌≡◌, ◌*◌, ◌+◌, ◌≤◌, length};
 
 // A line that has not ended yet: how many of its bytes stand at the front of the space, and how many lines may still come.
 #[derive(Clone, Copy)]
 pub struct Unfinished {
     pub held: usize,
     pub left: u64,
-}
-
-// The first place from `from` on that holds this byte, or the end.
-pub fn find(text: &[u8], from: usize, byte: u8) -> usize
-    requires { from ≤ length text.now }
-    ensures { (from ≤ result) × (result ≤ length text.now) }
-{
-    let mut at = from;
-    while at < text.len() {
-        if text[at] == byte {
-            return at;
-        }
-        at += 1;
-    }
-    at
-}
-
-// Brings the bytes from `at` to `end` to the front. Answers how many they are.
-fn to_front(space: &mut [u8], at: usize, end: usize) -> usize
-    requires { (at ≤ end) × (end ≤ length space.old) }
-    ensures { result ≡ end - at }
-{
-    let size = end - at;
-    let mut i: usize = 0;
-    while i < size {
-        space[i] = space[at + i];
-        i += 1;
-    }
-    size
 }
 
 // Keeps the line from `at` to `end`. One that fills the space is no command, however it goes on: its first 256 bytes are enough to know.
@@ -49,8 +20,9 @@ pub fn keep(space: &mut [u8], at: usize, end: usize, left: u64) -> Unfinished
             left: left - 1,
         };
     }
+    space.copy_within(at..end, 0);
     Unfinished {
-        held: to_front(space, at, end),
+        held: end - at,
         left,
     }
 }
