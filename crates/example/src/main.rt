@@ -4,7 +4,7 @@
 use answers::print_reply;
 use sanbirogu::{Address, Change, Procedure, Rectangle, Rule};
 use std::io;
-use terminal::{Output, print_line_end, print_named};
+use terminal::Output;
 
 // A tile left of 180 degrees, and what a sheet covers that crosses it.
 fn place() -> Address {
@@ -44,8 +44,7 @@ fn main(rt: HostRuntime) -> io::Result<()> {
         Procedure::Ins,
         place(),
     );
-    let told = put.reply;
-    print_reply(&mut out, b"insert: ", told);
+    print_reply(&mut out, "insert: ", put.reply);
     let put_all = sanbirogu::rectangle(
         put.session,
         &mut tiles,
@@ -57,11 +56,12 @@ fn main(rt: HostRuntime) -> io::Result<()> {
         covered(),
     );
     let ended = sanbirogu::commit(put_all.session, &tiles, &mut operations, &mut journal, 3);
-    let reply = ended.reply;
-    print_reply(&mut out, b"commit: ", reply);
+    print_reply(&mut out, "commit: ", ended.reply);
     let session = ended.session;
-    print_named(&mut out, b"tiles: ", session.tiles as u64);
-    print_named(&mut out, b", journal bytes: ", session.journal as u64);
-    print_line_end(&mut out);
+    writeln!(
+        out,
+        "tiles: {}, journal bytes: {}",
+        session.tiles, session.journal
+    );
     out.end()
 }
