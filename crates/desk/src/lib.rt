@@ -5,8 +5,9 @@ ghost use Rattle.std.specs.Prelude.{◌≡◌};
 ghost use Rattle.desk.specs.Lent.{Lent};
 
 pub use calls::answer;
+pub use outside::put;
 use sanbirogu::Session;
-use script::Command;
+use script::Places;
 use terminal::Output;
 
 mod calls;
@@ -33,35 +34,11 @@ pub fn empty() -> Desk
     }
 }
 
-fn clear_tiles(tiles: &mut [u32]) {
-    let mut i: usize = 0;
-    while i < tiles.len() {
-        tiles[i] = 0;
-        i += 1;
-    }
-}
-
-fn clear_operations(operations: &mut [u64]) {
-    let mut i: usize = 0;
-    while i < operations.len() {
-        operations[i] = 0;
-        i += 1;
-    }
-}
-
-fn clear_journal(journal: &mut [u8]) {
-    let mut i: usize = 0;
-    while i < journal.len() {
-        journal[i] = 0;
-        i += 1;
-    }
-}
-
 // Lends so many places of each table, all 0, with an empty session.
 pub fn lend(
     out: &mut Output,
     desk: Desk,
-    command: Command,
+    places: Places,
     tiles: &mut [u32],
     operations: &mut [u64],
     journal: &mut [u8],
@@ -69,21 +46,21 @@ pub fn lend(
     requires { Lent desk tiles.old operations.old journal.old }
     ensures { Lent result tiles.old operations.old journal.old }
 {
-    let t = script::first(command);
-    let o = script::second(command);
-    let j = script::third(command);
-    if tiles.len() < t || operations.len() < o || journal.len() < j {
+    if tiles.len() < places.tiles
+        || operations.len() < places.operations
+        || journal.len() < places.journal
+    {
         answers::refuse(out);
         return desk;
     }
-    clear_tiles(tiles);
-    clear_operations(operations);
-    clear_journal(journal);
-    answers::print_lent(out, t, o, j);
+    tiles.fill(0);
+    operations.fill(0);
+    journal.fill(0);
+    answers::print_lent(out, places.tiles, places.operations, places.journal);
     Desk {
         session: sanbirogu::empty_session(),
-        tiles: t,
-        operations: o,
-        journal: j,
+        tiles: places.tiles,
+        operations: places.operations,
+        journal: places.journal,
     }
 }
