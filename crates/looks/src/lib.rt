@@ -1,29 +1,16 @@
 // The commands that leave the session as it is, but for the one that shows it.
 #![tactic(auto)]
 
-use sanbirogu::{Address, Session};
-use script::{Command, Word, byte_of, first, second, signed, third};
+use sanbirogu::Session;
+use script::Look;
 use terminal::Output;
 
 mod checksum;
 mod help;
 
-fn lone_address(command: Command) -> Address {
-    Address {
-        edition: byte_of(command.values[0]),
-        zoom: byte_of(command.values[1]),
-        column: signed(command.values[2], command.negative[2]),
-        row: signed(command.values[3], command.negative[3]),
-    }
-}
-
-// The journal of a session is its used bytes.
+// The journal of a session is its used bytes, or all that are lent where the count is larger.
 fn read(out: &mut Output, session: Session, journal: &[u8], place: usize) {
-    let used = session.journal;
-    if journal.len() < used {
-        answers::print_read(out, by_reader::read_at(journal, place), place);
-        return;
-    }
+    let used = session.journal.min(journal.len());
     answers::print_read(out, by_reader::read_at(&journal[..used], place), place);
 }
 
@@ -35,43 +22,12 @@ fn run_replay(
     count: usize,
     length: usize,
 ) {
-    if journal.len() < length {
-        answers::refuse(out);
-        return;
+    match journal.get(..length) {
+        None => answers::refuse(out),
+        Some(used) => {
+            answers::print_replayed(out, sanbirogu::replay(used, tiles, count, operations))
+        }
     }
-    answers::print_replayed(
-        out,
-        sanbirogu::replay(&journal[..length], tiles, count, operations),
-    );
-}
-
-fn mend_into(
-    out: &mut Output,
-    tiles: &mut [u32],
-    operations: &mut [u64],
-    journal: &[u8],
-    count: usize,
-    output: &mut [u8],
-) {
-    let mended = sanbirogu::mend(journal, tiles, count, operations, output);
-    answers::print_mended(out, mended, checksum::sum_of_bytes(output));
-}
-
-// The same into the first bytes of an output, if it has so many.
-fn mend_within(
-    out: &mut Output,
-    tiles: &mut [u32],
-    operations: &mut [u64],
-    journal: &[u8],
-    count: usize,
-    output: &mut [u8],
-    room: usize,
-) {
-    if output.len() < room {
-        answers::refuse(out);
-        return;
-    }
-    mend_into(out, tiles, operations, journal, count, &mut output[..room]);
 }
 
 // An output is lent whose bytes all hold 255 before.
@@ -84,58 +40,40 @@ fn run_mend(
     length: usize,
     room: usize,
 ) {
-    if journal.len() < length {
-        answers::refuse(out);
-        return;
+    let mut space = [255u8; 66000];
+    match (journal.get(..length), space.get_mut(..room)) {
+        (Some(used), Some(output)) => {
+            let mended = sanbirogu::mend(used, tiles, count, operations, output);
+            answers::print_mended(out, mended, checksum::sum_of_bytes(output));
+        }
+        _ => answers::refuse(out),
     }
-    let mut output = [255u8; 66000];
-    mend_within(
-        out,
-        tiles,
-        operations,
-        &journal[..length],
-        count,
-        &mut output,
-        room,
-    );
 }
 
-// Whether the command is such a one; it is answered then.
+// Answers what only looks.
 pub fn look(
     out: &mut Output,
-    command: Command,
+    look: Look,
     session: Session,
     tiles: &mut [u32],
     operations: &mut [u64],
     journal: &[u8],
-) -> bool {
-    let word = command.word;
-    match word {
-        Word::Address => {
-            answers::print_located(out, b"reply ", sanbirogu::address(lone_address(command)))
+) {
+    match look {
+        Look::Address(address) => {
+            answers::print_located(out, "reply ", sanbirogu::address(address))
         }
-        Word::Read => read(out, session, journal, first(command)),
-        Word::Replay => run_replay(
-            out,
-            tiles,
-            operations,
-            journal,
-            first(command),
-            second(command),
-        ),
-        Word::Mend => run_mend(
-            out,
-            tiles,
-            operations,
-            journal,
-            first(command),
-            second(command),
-            third(command),
-        ),
-        Word::Levels => answers::print_levels(out, session),
-        Word::Sum => answers::print_sum(out, checksum::sum(session, tiles, operations, journal)),
-        Word::Help => help::print_commands(out),
-        _ => return false,
+        Look::Read(place) => read(out, session, journal, place),
+        Look::Replay { count, length } => {
+            run_replay(out, tiles, operations, journal, count, length)
+        }
+        Look::Mend {
+            count,
+            length,
+            room,
+        } => run_mend(out, tiles, operations, journal, count, length, room),
+        Look::Levels => answers::print_levels(out, session),
+        Look::Sum => answers::print_sum(out, checksum::sum(session, tiles, operations, journal)),
+        Look::Help => help::print_commands(out),
     }
-    true
 }
