@@ -13,27 +13,20 @@ const A: u32 = 1073987589;
 
 // Undo by inverses between two jobs: the cases of the report.
 fn two_jobs(out: &mut Output) {
+    tell(out, "No tiles, both insert A", 2, 0, 0, b"1(  2(  1+A 2+A ");
+    tell(out, "No tiles, insert A and ask", 2, 0, 0, b"1(  1+A 1?A ");
     tell(
         out,
-        b"No tiles, both insert A",
-        2,
-        0,
-        0,
-        b"1(  2(  1+A 2+A ",
-    );
-    tell(out, b"No tiles, insert A and ask", 2, 0, 0, b"1(  1+A 1?A ");
-    tell(
-        out,
-        b"A, insert and delete",
+        "A, insert and delete",
         2,
         A,
         1,
         b"1(  2(  1+A 2-A 1!  2)  3(  3?A ",
     );
-    tell(out, b"A, ask and delete", 2, A, 1, b"1(  2(  1?A 2-A ");
+    tell(out, "A, ask and delete", 2, A, 1, b"1(  2(  1?A 2-A ");
     tell(
         out,
-        b"No tiles, delete and insert",
+        "No tiles, delete and insert",
         2,
         0,
         0,
@@ -45,7 +38,7 @@ fn two_jobs(out: &mut Output) {
 fn one_place(out: &mut Output) {
     tell(
         out,
-        b"One place, delete A and insert B",
+        "One place, delete A and insert B",
         1,
         A,
         1,
@@ -53,20 +46,20 @@ fn one_place(out: &mut Output) {
     );
     tell(
         out,
-        b"One place, delete A and insert A",
+        "One place, delete A and insert A",
         1,
         A,
         1,
         b"1(  2(  1-A 2+A ",
     );
-    tell(out, b"One place, insert A", 1, A, 1, b"1(  1+A ");
+    tell(out, "One place, insert A", 1, A, 1, b"1(  1+A ");
 }
 
 // A job sees its own tiles where it fails as one.
 fn own_tiles(out: &mut Output) {
     tell_together(
         out,
-        b"Rule 2, no tiles, insert A and ask",
+        "Rule 2, no tiles, insert A and ask",
         2,
         0,
         0,
@@ -74,7 +67,7 @@ fn own_tiles(out: &mut Output) {
     );
     tell_together(
         out,
-        b"Rule 2, A, replace it and abort",
+        "Rule 2, A, replace it and abort",
         2,
         A,
         1,
@@ -82,7 +75,7 @@ fn own_tiles(out: &mut Output) {
     );
     tell_together(
         out,
-        b"Rule 2, no tiles, held though strict",
+        "Rule 2, no tiles, held though strict",
         2,
         0,
         0,
@@ -94,7 +87,7 @@ fn own_tiles(out: &mut Output) {
 fn own_room(out: &mut Output) {
     tell_together(
         out,
-        b"Rule 2, one place, replace A",
+        "Rule 2, one place, replace A",
         1,
         A,
         1,
@@ -102,7 +95,7 @@ fn own_room(out: &mut Output) {
     );
     tell_together(
         out,
-        b"Rule 2, one place that no outcome needs",
+        "Rule 2, one place that no outcome needs",
         1,
         0,
         0,
@@ -111,7 +104,7 @@ fn own_room(out: &mut Output) {
     tell_briefly(
         out,
         Rule::Together,
-        b"Rule 2, journal of 3 bytes",
+        "Rule 2, journal of 3 bytes",
         &mut [0; 3],
         b"1(  ",
     );
@@ -121,7 +114,7 @@ fn own_room(out: &mut Output) {
 fn refusals(out: &mut Output) {
     tell(
         out,
-        b"Addresses out of range",
+        "Addresses out of range",
         1,
         0,
         0,
@@ -129,7 +122,7 @@ fn refusals(out: &mut Output) {
     );
     tell(
         out,
-        b"One tile by both editions",
+        "One tile by both editions",
         1,
         0,
         0,
@@ -137,7 +130,7 @@ fn refusals(out: &mut Output) {
     );
     tell(
         out,
-        b"The job is looked at first",
+        "The job is looked at first",
         1,
         0,
         0,
@@ -145,7 +138,7 @@ fn refusals(out: &mut Output) {
     );
     tell(
         out,
-        b"Operations table full",
+        "Operations table full",
         1,
         0,
         0,
@@ -154,23 +147,23 @@ fn refusals(out: &mut Output) {
     tell_briefly(
         out,
         Rule::Alone,
-        b"Journal of 22 bytes",
+        "Journal of 22 bytes",
         &mut [0; 22],
         b"1(  2(  1?A 2(  1!  3(  2)  ",
     );
-    tell(out, b"A count past the table", 1, 0, 2, b"1(  1?A 1)  1!  ");
-    tell(out, b"A key behind the count", 1, A, 0, b"1(  1?A 1)  1!  ");
+    tell(out, "A count past the table", 1, 0, 2, b"1(  1?A 1)  1!  ");
+    tell(out, "A key behind the count", 1, A, 0, b"1(  1?A 1)  1!  ");
 }
 
 fn addresses(out: &mut Output) {
-    show_address(out, b"2 4 -1 5", b'A');
-    show_address(out, b"2 4 16 0", b'B');
-    show_address(out, b"2 4 0 16", b's');
-    show_address(out, b"2 3 0 0", b'l');
-    show_address(out, b"2 15 0 0", b'h');
-    show_address(out, b"1 4 -1 10", b'a');
-    show_address(out, b"1 4 0 -1", b'n');
-    show_address(out, b"3 4 0 16", b'x');
+    show_address(out, "2 4 -1 5", b'A');
+    show_address(out, "2 4 16 0", b'B');
+    show_address(out, "2 4 0 16", b's');
+    show_address(out, "2 3 0 0", b'l');
+    show_address(out, "2 15 0 0", b'h');
+    show_address(out, "1 4 -1 10", b'a');
+    show_address(out, "1 4 0 -1", b'n');
+    show_address(out, "3 4 0 16", b'x');
 }
 
 fn main(rt: HostRuntime) -> io::Result<()> {

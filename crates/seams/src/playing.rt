@@ -1,17 +1,8 @@
 // A seam case played on the calls: each call is named by three bytes, and its reply is printed.
-ghost use Rattle.std.specs.Prelude.{◌≤◌, length};
+ghost use Rattle.std.specs.Prelude.{◌≤◌};
 
-use sanbirogu::{Address, Outcome, Procedure, Reply, Rule, Session};
-use terminal::{Output, print, print_line_end, print_named};
-
-fn print_reply(out: &mut Output, reply: Reply) {
-    answers::print_reply(out, b" -> ", reply);
-}
-
-fn print_count(out: &mut Output, session: Session) {
-    print_named(out, b"  tiles ", session.tiles as u64);
-    print_line_end(out);
-}
+use sanbirogu::{Address, Outcome, Procedure, Rule, Session};
+use terminal::Output;
 
 fn at(edition: u8, zoom: u8, column: i32, row: i32) -> Address {
     Address {
@@ -37,9 +28,9 @@ fn address_of(tile: u8) -> Address {
     }
 }
 
-pub fn show_address(out: &mut Output, name: &[u8], tile: u8) {
-    print(out, name);
-    answers::print_located(out, b" -> ", sanbirogu::address(address_of(tile)));
+pub fn show_address(out: &mut Output, name: &str, tile: u8) {
+    write!(out, "{name}");
+    answers::print_located(out, " -> ", sanbirogu::address(address_of(tile)));
 }
 
 // A digit is a job; anything else is job 64.
@@ -62,7 +53,7 @@ fn procedure_of(what: u8) -> Procedure {
 
 // Each job corrects a sheet of its own.
 fn sheet_of(job: u8) -> u16 {
-    100 + job as u16
+    100 + u16::from(job)
 }
 
 fn call(
@@ -98,16 +89,21 @@ fn step(
     tiles: &mut [u32],
     operations: &mut [u64],
     journal: &mut [u8],
-    named: &[u8],
-) -> Session
-    requires { 3 ≤ length named.now }
-{
-    let job = job_of(named[0]);
-    let done = call(session, tiles, operations, journal, job, named[1], named[2]);
-    let reply = done.reply;
-    print(out, b"  ");
-    print(out, named);
-    print_reply(out, reply);
+    named: &[u8; 4],
+) -> Session {
+    let [name, what, tile, _] = *named;
+    let done = call(
+        session,
+        tiles,
+        operations,
+        journal,
+        job_of(name),
+        what,
+        tile,
+    );
+    write!(out, "  ");
+    out.write_all(&named[..3]);
+    answers::print_reply(out, " -> ", done.reply);
     done.session
 }
 
@@ -115,31 +111,29 @@ fn step(
 fn play(
     out: &mut Output,
     rule: Rule,
-    name: &[u8],
+    name: &str,
     tiles: &mut [u32],
     count: usize,
     operations: &mut [u64],
     journal: &mut [u8],
     story: &[u8],
 ) {
-    print(out, name);
     let begun = sanbirogu::start(tiles, count, operations, journal, rule);
-    let reply = begun.reply;
-    print_reply(out, reply);
+    write!(out, "{name}");
+    answers::print_reply(out, " -> ", begun.reply);
     let mut session = begun.session;
-    let mut at: usize = 0;
-    while at + 4 <= story.len() {
-        session = step(out, session, tiles, operations, journal, &story[at..at + 3]);
-        at += 4;
+    let (calls, _) = story.as_chunks();
+    for named in calls {
+        session = step(out, session, tiles, operations, journal, named);
     }
-    print_count(out, session);
+    writeln!(out, "  tiles {}", session.tiles);
 }
 
 // The same with room for four operations and 64 bytes of journal, on one place for a tile or two: this key in the first, and nothing in the other.
 fn tell_by(
     out: &mut Output,
     rule: Rule,
-    name: &[u8],
+    name: &str,
     places: usize,
     key: u32,
     count: usize,
@@ -162,7 +156,7 @@ fn tell_by(
     );
 }
 
-pub fn tell(out: &mut Output, name: &[u8], places: usize, key: u32, count: usize, story: &[u8])
+pub fn tell(out: &mut Output, name: &str, places: usize, key: u32, count: usize, story: &[u8])
     requires { places ≤ 2 }
 {
     tell_by(out, Rule::Alone, name, places, key, count, story);
@@ -170,7 +164,7 @@ pub fn tell(out: &mut Output, name: &[u8], places: usize, key: u32, count: usize
 
 pub fn tell_together(
     out: &mut Output,
-    name: &[u8],
+    name: &str,
     places: usize,
     key: u32,
     count: usize,
@@ -182,6 +176,6 @@ pub fn tell_together(
 }
 
 // The same with room for one tile, one operation and a journal that is soon full.
-pub fn tell_briefly(out: &mut Output, rule: Rule, name: &[u8], journal: &mut [u8], story: &[u8]) {
+pub fn tell_briefly(out: &mut Output, rule: Rule, name: &str, journal: &mut [u8], story: &[u8]) {
     play(out, rule, name, &mut [0], 0, &mut [0], journal, story);
 }
