@@ -3,27 +3,25 @@ ghost use Rattle.desk.specs.Lent.{Lent};
 
 use desk::Desk;
 use sanbirogu::Session;
-use script::{Command, Word};
+use script::{Command, Request};
 use terminal::Output;
 
 // Answers one command on what is lent.
 fn answer(
     out: &mut Output,
-    command: Command,
+    request: Request,
     session: Session,
     tiles: &mut [u32],
     operations: &mut [u64],
     journal: &mut [u8],
 ) -> Session {
-    let word = command.word;
-    if let Word::Show = word {
-        picture::show(out, session, tiles, operations, journal);
-        return session;
+    match request {
+        Request::Call(call) => return desk::answer(out, call, session, tiles, operations, journal),
+        Request::Put(put) => return desk::put(out, put, session, tiles, operations, journal),
+        Request::Look(look) => looks::look(out, look, session, tiles, operations, journal),
+        Request::Show => picture::show(out, session, tiles, operations, journal),
     }
-    if looks::look(out, command, session, tiles, operations, journal) {
-        return session;
-    }
-    desk::answer(out, command, session, tiles, operations, journal)
+    session
 }
 
 // Answers one line.
@@ -38,27 +36,22 @@ pub fn answer_line(
     requires { Lent desk tiles.old operations.old journal.old }
     ensures { Lent result tiles.old operations.old journal.old }
 {
-    let command = script::parse(line);
-    let word = command.word;
-    if let Word::Lend = word {
-        return desk::lend(out, desk, command, tiles, operations, journal);
-    }
-    let t = desk.tiles;
-    let o = desk.operations;
-    let j = desk.journal;
-    let session = desk.session;
-    let next = answer(
-        out,
-        command,
-        session,
-        &mut tiles[..t],
-        &mut operations[..o],
-        &mut journal[..j],
-    );
-    Desk {
-        session: next,
-        tiles: t,
-        operations: o,
-        journal: j,
+    match script::parse(line) {
+        None => {
+            answers::refuse(out);
+            desk
+        }
+        Some(Command::Lend(places)) => desk::lend(out, desk, places, tiles, operations, journal),
+        Some(Command::OnLent(request)) => Desk {
+            session: answer(
+                out,
+                request,
+                desk.session,
+                &mut tiles[..desk.tiles],
+                &mut operations[..desk.operations],
+                &mut journal[..desk.journal],
+            ),
+            ..desk
+        },
     }
 }

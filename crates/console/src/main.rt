@@ -39,25 +39,18 @@ fn answer_lines(
     let mut at: usize = 0;
     let mut more = left;
     while 0 < more {
-        let end = script::find(text, at, b'\n');
-        if end == text.len() {
+        let Some(size) = text[at..].iter().position(|&byte| byte == b'\n') else {
             break;
-        }
-        reached = commands::answer_line(out, reached, &text[at..end], tiles, operations, journal);
-        at = end + 1;
+        };
+        let line = &text[at..at + size];
+        reached = commands::answer_line(out, reached, line, tiles, operations, journal);
+        at += size + 1;
         more -= 1;
     }
     Progress {
         desk: reached,
         at,
         left: more,
-    }
-}
-
-// Says so where the input did not end, but could not be read.
-fn say_end(out: &mut Output, failed: bool) {
-    if failed {
-        terminal::print_unreadable(out);
     }
 }
 
@@ -77,10 +70,9 @@ fn answer_so_far(
         × Lent result.desk tiles.old operations.old journal.old }
 {
     let done = answer_lines(out, desk, left, &space[..end], tiles, operations, journal);
-    let reached = done.desk;
     let rest = script::keep(space, done.at, end, done.left);
     Progress {
-        desk: reached,
+        desk: done.desk,
         at: rest.held,
         left: rest.left,
     }
@@ -97,20 +89,29 @@ fn answer_input(
 )
     requires { length space.old ≡ 65536 }
 {
-    let mut desk = desk::empty();
-    let mut at: usize = 0;
-    let mut left: u64 = 4294967296;
-    while 0 < left {
-        let input = terminal::read_some(source, space, at);
-        if input.bytes == 0 {
-            say_end(out, input.failed);
+    let mut reached = Progress {
+        desk: desk::empty(),
+        at: 0,
+        left: 4294967296,
+    };
+    while 0 < reached.left {
+        let Ok(bytes) = terminal::read_some(source, space, reached.at) else {
+            writeln!(out, "unreadable input");
+            return;
+        };
+        if bytes == 0 {
             return;
         }
-        let end = at + input.bytes;
-        let next = answer_so_far(out, desk, left, space, end, tiles, operations, journal);
-        desk = next.desk;
-        at = next.at;
-        left = next.left;
+        reached = answer_so_far(
+            out,
+            reached.desk,
+            reached.left,
+            space,
+            reached.at + bytes,
+            tiles,
+            operations,
+            journal,
+        );
         if out.has_failed() {
             return;
         }

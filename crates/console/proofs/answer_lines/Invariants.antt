@@ -1,7 +1,5 @@
 -- what is lent is there, and each line takes one of those that may come
-use mathlib.Core.Path.{◌≡◌}
-use Prim.Native.Nat.{◌*◌, ◌+◌, ◌≤◌}
-use lib.ListN.{length}
+use Rattle.std.proofs.Common.{◌≡◌, ◌*◌, ◌+◌, ◌≤◌, length}
 use Rattle.desk.specs.Lent.{Lent}
 use Rattle.console.proofs.answer_lines.Given as goal
 
