@@ -1,4 +1,5 @@
 // The soundness check and the public calls for the program of baseline/ to link: a session comes and goes in its parts, and a reply goes as numbers.
+// Rules, procedures, changes and replies are numbers here, and a table and its count stand apart, because C has no more: this is the C interface.
 #![tactic(auto)]
 
 use sanbirogu::{Address, Change, Outcome, Procedure, Rectangle, Rule, Session};
@@ -39,10 +40,9 @@ fn give(
     levels: &mut [usize; 11],
     reply: &mut [i32; 6],
 ) {
-    let answered = outcome.reply;
-    let told = sanbirogu::numbers(answered);
+    let told = sanbirogu::numbers(outcome.reply);
     let next = outcome.session;
-    let rule = next.rule;
+    // Tried as `*marks = next.marks`: the proof does not cover an array that is stored straight from a field.
     let open = next.marks;
     let counts = next.levels;
     *marks = open;
@@ -50,15 +50,15 @@ fn give(
         next.tiles,
         next.operations,
         next.journal,
-        rule_number(rule),
+        rule_number(next.rule),
         next.spoken,
     ];
     *levels = counts;
     *reply = [
-        told.number as i32,
-        told.answer as i32,
-        told.holder as i32,
-        told.sheet as i32,
+        i32::from(told.number),
+        i32::from(told.answer),
+        i32::from(told.holder),
+        i32::from(told.sheet),
         told.turns,
         told.last,
     ];
@@ -245,9 +245,8 @@ pub extern "C" fn bench_replay(
     reply: &mut [u64; 4],
 ) {
     let replayed = sanbirogu::replay(journal, tiles, count, operations);
-    let stop = replayed.stop;
     *reply = [
-        sanbirogu::stop_number(stop) as u64,
+        u64::from(sanbirogu::stop_number(replayed.stop)),
         replayed.offset as u64,
         replayed.undone as u64,
         replayed.tiles as u64,
