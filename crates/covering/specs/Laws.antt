@@ -1,5 +1,5 @@
 -- From the gate and the shape of a rectangle to what the call promises
-use Rattle.std.specs.Prelude.{Bool, not, List, [], ◌∷◌, ◌≡◌, ◌≤◌, ℕ, pos, length, take}
+use Rattle.std.specs.Prelude.{Bool, Err, not, List, [], ◌∷◌, ◌≡◌, ◌≤◌, ℕ, pos, length, take}
 use Rattle.std.proofs.Math.Bool.{cond, false, true}
 use Rattle.std.proofs.Common.{◌∙◌, subst, eqb-true, le-ltb, ltb-false}
 use Rattle.std.proofs.Math.Path.{ap, refl, sym}
@@ -13,7 +13,7 @@ use Rattle.service.specs.Claims.{Serves}
 use Rattle.service.specs.History.{committing}
 use Rattle.service.proofs.Laws.Accepting.{numbered}
 use Rattle.service.proofs.Laws.Telling.{Numbered, decided_done, unrefused}
-use Rattle.service.specs.Told.{Refusal, bare, decided, done, refuse}
+use Rattle.service.specs.Told.{Refusal, bare, decided, done, refuse, told}
 use Rattle.service.specs.World.{Reported, World}
 use Rattle.service.specs.declared.Told.{Told}
 use Rattle.decisions.specs.Laws.{decided_append, gate_refuses}
@@ -23,17 +23,21 @@ use Rattle.rectangles.specs.Rectangles.{carried_all, covered, keys, list_refusal
 use Rattle.rectangles.specs.declared.Change.{Change}
 use Rattle.rectangles.specs.declared.Rectangle.{Rectangle}
 use Rattle.shapes.specs.Laws.Listed.{all_valid, shape_few}
+use Rattle.shapes.specs.Shaping.{Shapes, reply_of}
+use Rattle.shapes.specs.declared.Flaw.TheVariants.{Misshapen, NoEdition, OutOfRange}
+use Rattle.shapes.specs.declared.Flaw.{Flaw}
+use Rattle.shapes.specs.declared.Shape.{Shape}
 use Rattle.placing.specs.Laws.Carrying.{list_numbered}
 use Rattle.placing.specs.Passes.{Carries, list_after, list_call}
 use Rattle.covering.specs.Asking.{Asks, turns_added}
 
 -- the list as it was written
-pub asks_carries : (w : World) (job : ℕ) (r : Rectangle) (corner height n : ℕ) → Asks w job r corner height n → (l : List ℕ) → n ≤ length l → take n l ≡ keys (listed r)
-    → Carries w job l n
-asks_carries w job r corner height n a l fits is =
+pub asks_carries : (w : World) (job : ℕ) (r : Rectangle) (s : Shape) → Asks w job r s → (l : List ℕ) → s.n ≤ length l → take s.n l ≡ keys (listed r)
+    → Carries w job l s.n
+asks_carries w job r s a l fits is =
     record {
       ready = a.ready;
-      few = shape_few r corner height n a.shape;
+      few = shape_few r s a.shape;
       fits_list = fits;
       valid = subst (All (λ k. is_key k ≡ true)) (sym is) (all_valid r a.shape.0);
       apart = subst Apart (sym is) (all_apart r a.shape.0);
@@ -83,18 +87,14 @@ module _ (w : World) (job sheet : ℕ) (change : Change) (r : Rectangle) where
     past_gate : decided (rectangle_refusals w job p r) (covered r) ≡ decided later (covered r)
     past_gate = rw (ready.is_sound_there, le-ltb 63 job ready.small, ready.job_is_open)
 
-    pub tells_fourteen : misnamed r ≡ true → record { told = bare 14; after = w } ≡ rectangle_call w job sheet change r
-    tells_fourteen e =
+    pub tells_flaw : (flaw : Flaw) → Shapes r (Err flaw) → record { told = told (reply_of flaw); after = w } ≡ rectangle_call w job sheet change r
+    tells_flaw NoEdition e =
         let t : bare 14 ≡ decided (rectangle_refusals w job p r) (covered r) = sym (past_gate ∙ rw e) in
         ap (list_after w job sheet p ks) t ∙ sym call_is
-
-    pub tells_five : (misnamed r ≡ false) × (out_of_range r ≡ true) → record { told = bare 5; after = w } ≡ rectangle_call w job sheet change r
-    tells_five e =
+    tells_flaw OutOfRange e =
         let t : bare 5 ≡ decided (rectangle_refusals w job p r) (covered r) = sym (past_gate ∙ rw (e.0, e.1)) in
         ap (list_after w job sheet p ks) t ∙ sym call_is
-
-    pub tells_thirteen : (misnamed r ≡ false) × (out_of_range r ≡ false) × (misshapen r ≡ true) → record { told = bare 13; after = w } ≡ rectangle_call w job sheet change r
-    tells_thirteen e =
+    tells_flaw Misshapen e =
         let t : bare 13 ≡ decided (rectangle_refusals w job p r) (covered r) = sym (past_gate ∙ rw (e.0, e.1, e.2)) in
         ap (list_after w job sheet p ks) t ∙ sym call_is
 

@@ -25,7 +25,7 @@ fn procedure_for(change: Change) -> Procedure
     }
 }
 
-// Lists the tiles of a rectangle whose shape is fine, and carries them out.
+// Lists the tiles of a rectangle that has a shape, and carries them out.
 fn carry_rectangle(
     session: Session,
     tiles: &mut [u32],
@@ -35,18 +35,17 @@ fn carry_rectangle(
     sheet: u16,
     procedure: Procedure,
     r: Rectangle,
-    corner: u32,
-    height: u32,
-    n: u32,
+    shape: Shape,
 ) -> Outcome
-    requires { Asks (world session tiles.old operations.old journal.old) job r corner height n }
+    requires { Asks (world session tiles.old operations.old journal.old) job r shape }
     ensures { reported result tiles.new operations.new journal.new
         ≡ list_call (world session tiles.old operations.old journal.old) job sheet procedure (keys_of (listed r)) }
 {
     let mut keys = [0u32; 256];
-    shapes::list_tiles(r, corner, height, n, &mut keys);
+    shapes::list_tiles(r, shape, &mut keys);
+    let n = shape.n as usize;
     placing::carry_list(
-        session, tiles, operations, journal, job, sheet, procedure, &keys, n as usize,
+        session, tiles, operations, journal, job, sheet, procedure, &keys, n,
     )
 }
 
@@ -66,7 +65,7 @@ fn with_turns(reply: Reply, r: Rectangle) -> Reply
     }
 }
 
-// Judges the shape of a rectangle, and carries it out where that is fine.
+// Judges the shape of a rectangle, and carries it out where it has one.
 fn carry_shaped(
     session: Session,
     tiles: &mut [u32],
@@ -82,30 +81,20 @@ fn carry_shaped(
         ≡ rectangle_call (world session tiles.old operations.old journal.old) job sheet change r }
 {
     match shapes::shape_of(r) {
-        Shape::NoEdition => Outcome {
-            reply: Reply::NoEdition,
-            session,
-        },
-        Shape::OutOfRange => Outcome {
-            reply: Reply::OutOfRange,
-            session,
-        },
-        Shape::Misshapen => Outcome {
-            reply: Reply::Misshapen,
-            session,
-        },
-        Shape::Fine { corner, height, n } => {
+        Ok(shape) => {
             let procedure = procedure_for(change);
             let done = carry_rectangle(
-                session, tiles, operations, journal, job, sheet, procedure, r, corner, height, n,
+                session, tiles, operations, journal, job, sheet, procedure, r, shape,
             );
-            let reply = done.reply;
-            let session = done.session;
             Outcome {
-                reply: with_turns(reply, r),
-                session,
+                reply: with_turns(done.reply, r),
+                session: done.session,
             }
         }
+        Err(flaw) => Outcome {
+            reply: Reply::from(flaw),
+            session,
+        },
     }
 }
 

@@ -3,22 +3,41 @@
 
 ghost use Rattle.std.specs.Prelude.{◌≡◌, ◌-◌, ◌<◌, ◌^◌, ◌≤◌, suc, length, take};
 ghost use Rattle.std.specs.Int.Signed.{mag};
-ghost use Rattle.grid.specs.Tile.{address_call, address_of, placed, row_in};
+ghost use Rattle.grid.specs.Tile.{address_of, row_in};
 ghost use Rattle.rectangles.specs.Rectangles as report;
 ghost use Rattle.rectangles.specs.Rectangles.{most_in_rectangle};
-ghost use Rattle.shapes.specs.Shaping.{Measures, Shapes, Steps, stepped};
-ghost use Rattle.shapes.specs.declared.Shape.TheVariants.{Fine};
+ghost use Rattle.shapes.specs.Shaping.{Corners, Measures, Shapes, Steps, reply_of, stepped};
 
 use grid::{Address, COLUMN_FACTOR, Located, ZOOM_FACTOR};
 use rectangles::{MOST_IN_RECTANGLE, Rectangle};
+use service::Reply;
 
-// A rectangle's shape: refused by 14, by 5, by 13, or the key of its first tile, its height and how many tiles it has.
+// A rectangle's shape: the key of its first tile, its height and how many tiles it has.
 #[derive(Clone, Copy)]
-pub enum Shape {
+pub struct Shape {
+    pub corner: u32,
+    pub height: u32,
+    pub n: u32,
+}
+
+// What is wrong with a rectangle that has none: 14, 5 and 13.
+#[derive(Clone, Copy)]
+pub enum Flaw {
     NoEdition,
     OutOfRange,
     Misshapen,
-    Fine { corner: u32, height: u32, n: u32 },
+}
+
+impl From<Flaw> for Reply {
+    ghost from_gives = { λ flaw r. r ≡ reply_of flaw };
+
+    fn from(flaw: Flaw) -> Reply {
+        match flaw {
+            Flaw::NoEdition => Reply::NoEdition,
+            Flaw::OutOfRange => Reply::OutOfRange,
+            Flaw::Misshapen => Reply::Misshapen,
+        }
+    }
 }
 
 // The columns of a level.
@@ -64,15 +83,20 @@ fn span(a: i32, b: i32) -> usize
 }
 
 // The key of one corner.
-fn corner_key(edition: u8, zoom: u8, column: i32, row: i32) -> Located
-    ensures { placed result ≡ address_call (address_of edition zoom column row) }
+fn corner_key(edition: u8, zoom: u8, column: i32, row: i32) -> Result<u32, Flaw>
+    ensures { Corners (address_of edition zoom column row) result }
 {
-    address::locate(Address {
+    let address = Address {
         edition,
         zoom,
         column,
         row,
-    })
+    };
+    match address::locate(address) {
+        Located::NoEdition => Err(Flaw::NoEdition),
+        Located::Refused => Err(Flaw::OutOfRange),
+        Located::Key { key, turns: _ } => Ok(key),
+    }
 }
 
 // How many rows there are from that of one key to that of another. Keys hold rows counted from the north.
@@ -88,58 +112,45 @@ fn rows_between(top: u32, bottom: u32) -> usize
 }
 
 // Judges width and height.
-fn measured(zoom: u8, corner: u32, width: usize, height: usize) -> Shape
+fn measured(zoom: u8, corner: u32, width: usize, height: usize) -> Result<Shape, Flaw>
     requires { zoom ≤ 14 }
     ensures { Measures zoom corner width height result }
 {
     if width == 0 {
-        return Shape::Misshapen;
+        return Err(Flaw::Misshapen);
     }
     if height == 0 {
-        return Shape::Misshapen;
+        return Err(Flaw::Misshapen);
     }
     if (columns_of(zoom) as usize) < width {
-        return Shape::Misshapen;
+        return Err(Flaw::Misshapen);
     }
     if MOST_IN_RECTANGLE < height {
-        return Shape::Misshapen;
+        return Err(Flaw::Misshapen);
     }
     let n = width * height;
     if MOST_IN_RECTANGLE < n {
-        return Shape::Misshapen;
+        return Err(Flaw::Misshapen);
     }
-    Shape::Fine {
+    Ok(Shape {
         corner,
         height: height as u32,
         n: n as u32,
-    }
+    })
 }
 
 // Judges a rectangle: both corners, then its shape.
-pub fn shape_of(r: Rectangle) -> Shape
+pub fn shape_of(r: Rectangle) -> Result<Shape, Flaw>
     ensures { Shapes r result }
 {
-    let edition = r.edition;
-    let zoom = r.zoom;
-    let west = r.west;
-    let east = r.east;
-    let top = r.top;
-    let bottom = r.bottom;
-    match corner_key(edition, zoom, west, top) {
-        Located::NoEdition => Shape::NoEdition,
-        Located::Refused => Shape::OutOfRange,
-        Located::Key {
-            key: corner,
-            turns: _,
-        } => match corner_key(edition, zoom, east, bottom) {
-            Located::NoEdition => Shape::NoEdition,
-            Located::Refused => Shape::OutOfRange,
-            Located::Key {
-                key: last,
-                turns: _,
-            } => measured(zoom, corner, span(west, east), rows_between(corner, last)),
-        },
-    }
+    let corner = corner_key(r.edition, r.zoom, r.west, r.top)?;
+    let last = corner_key(r.edition, r.zoom, r.east, r.bottom)?;
+    measured(
+        r.zoom,
+        corner,
+        span(r.west, r.east),
+        rows_between(corner, last),
+    )
 }
 
 // The key of tile i of a rectangle, by steps from its first column. The columns go round the world; nothing is signed.
@@ -165,19 +176,19 @@ fn list_keys(zoom: u8, columns: u32, first: u32, north: u32, height: u32, n: u32
     }
 }
 
-// Lists the keys of the tiles of a rectangle whose shape is fine.
-pub fn list_tiles(r: Rectangle, corner: u32, height: u32, n: u32, keys: &mut [u32])
-    requires { Shapes r (Fine corner height n) × (n ≤ length keys.old) }
-    ensures { (length keys.new ≡ length keys.old) × (take n keys.new ≡ report.keys (report.listed r)) }
+// Lists the keys of the tiles of a rectangle that has a shape.
+pub fn list_tiles(r: Rectangle, shape: Shape, keys: &mut [u32])
+    requires { Shapes r (Ok shape) × (shape.n ≤ length keys.old) }
+    ensures { (length keys.new ≡ length keys.old) × (take shape.n keys.new ≡ report.keys (report.listed r)) }
 {
-    let zoom = r.zoom;
+    let corner = shape.corner;
     list_keys(
-        zoom,
-        columns_of(zoom),
+        r.zoom,
+        columns_of(r.zoom),
         corner % ZOOM_FACTOR / COLUMN_FACTOR,
         corner % COLUMN_FACTOR,
-        height,
-        n,
+        shape.height,
+        shape.n,
         keys,
     )
 }

@@ -7,21 +7,23 @@ use Rattle.shapes.specs.Shaping.{Steps, stepped}
 use Rattle.shapes.proofs.list_tiles.Goals as goal
 
 pub columns_of-requires : goal.columns_of-requires
-columns_of-requires c = (shape_steps c.args.r c.args.corner c.args.height c.args.n c.requires.0).low_zoom
+columns_of-requires c = (shape_steps c.args.r c.args.shape c.requires.0).low_zoom
 
 pub list_keys-requires : goal.list_keys-requires
 list_keys-requires c =
-    let a = c.args in (
-      subst (λ x. Steps a.r.zoom x (column_in a.corner) (row_in a.corner) a.height) (sym c.columns_of.ensures) (shape_steps a.r a.corner a.height a.n c.requires.0),
-      shape_few a.r a.corner a.height a.n c.requires.0,
+    let a = c.args in
+    let s = a.shape in (
+      subst (λ x. Steps a.r.zoom x (column_in s.corner) (row_in s.corner) s.height) (sym c.columns_of.ensures) (shape_steps a.r s c.requires.0),
+      shape_few a.r s c.requires.0,
       c.requires.1,
     )
 
 pub returns : goal.returns
 returns c =
-    let a = c.args in (
+    let a = c.args in
+    let s = a.shape in (
       c.list_keys.ensures.0,
       c.list_keys.ensures.1
-          ∙ ap (λ x. sequence (stepped a.r.zoom x (column_in a.corner) (row_in a.corner) a.height) 0 a.n) c.columns_of.ensures
-          ∙ shape_list a.r a.corner a.height a.n c.requires.0,
+          ∙ ap (λ x. sequence (stepped a.r.zoom x (column_in s.corner) (row_in s.corner) s.height) 0 s.n) c.columns_of.ensures
+          ∙ shape_list a.r s c.requires.0,
     )

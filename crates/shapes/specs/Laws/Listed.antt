@@ -1,5 +1,5 @@
 -- The keys of a rectangle by steps, and the pass that lists them
-use Rattle.std.specs.Prelude.{true, List, [], ◌++◌, ◌∷◌, ◌≡◌, refl, ◌%◌, ◌+◌, ◌-◌, ◌/◌, ◌<◌, ◌^◌, ◌≤◌, suc, zero, ℕ, eqb, ltb, pos, length, set, take}
+use Rattle.std.specs.Prelude.{Ok, true, List, [], ◌++◌, ◌∷◌, ◌≡◌, refl, ◌%◌, ◌+◌, ◌-◌, ◌/◌, ◌<◌, ◌^◌, ◌≤◌, suc, zero, ℕ, eqb, ltb, pos, length, set, take}
 use Rattle.std.proofs.Math.Option.{some}
 use Rattle.std.proofs.Common.{◌∙◌, ap, ap₂, subst, sym, div-le_self, mod-lt, add-one, arith, pow_pos, take-suc-set, ltb-false}
 use Rattle.lists.specs.Lists.{All}
@@ -12,7 +12,7 @@ use Rattle.rectangles.proofs.Laws.Tiles.{Extent, extent, key_stepped, placed_row
 use Rattle.rectangles.specs.Rectangles.{area, first_corner, height, key_for, keys, last_corner, listed, sequence, span, tile_at, top_row, unplaced, width}
 use Rattle.rectangles.specs.declared.Rectangle.{Rectangle}
 use Rattle.shapes.specs.Shaping.{Shapes, Steps, stepped}
-use Rattle.shapes.specs.declared.Shape.TheVariants.{Fine}
+use Rattle.shapes.specs.declared.Shape.{Shape}
 
 -- what the sums of a key need
 pub record Bounds (columns first north height i : ℕ) : Type 0 where
@@ -92,15 +92,15 @@ module _ (r : Rectangle) (s : Shaped r) where
       (or_right (ltb (2 ^ r.zoom) (width r)) (ltb 256 (area r)) (or_right (eqb (height r) 0) _ (or_right (eqb (width r) 0) _ s.well_formed)))
 
 -- as the shape has it: the corner, the height and how many
-module _ (r : Rectangle) (c h n : ℕ) (f : Shapes r (Fine c h n)) where
-  pub shape_steps : Steps r.zoom (2 ^ r.zoom) (column_in c) (row_in c) h
+module _ (r : Rectangle) (s : Shape) (f : Shapes r (Ok s)) where
+  pub shape_steps : Steps r.zoom (2 ^ r.zoom) (column_in s.corner) (row_in s.corner) s.height
   shape_steps =
-      subst (λ y. Steps r.zoom (2 ^ r.zoom) (column_in c) (row_in c) y) (sym f.2)
+      subst (λ y. Steps r.zoom (2 ^ r.zoom) (column_in s.corner) (row_in s.corner) y) (sym f.2)
       (subst (λ y. Steps r.zoom (2 ^ r.zoom) (column_in y) (row_in y) (height r)) (sym f.1) (steps_of r f.0))
 
-  pub shape_few : n ≤ 256
+  pub shape_few : s.n ≤ 256
   shape_few = let e = f.3 in let l = few_tiles r f.0 in omega arith
 
-  pub shape_list : sequence (stepped r.zoom (2 ^ r.zoom) (column_in c) (row_in c) h) 0 n ≡ keys (listed r)
+  pub shape_list : sequence (stepped r.zoom (2 ^ r.zoom) (column_in s.corner) (row_in s.corner) s.height) 0 s.n ≡ keys (listed r)
   shape_list =
       (λ i. sequence (stepped r.zoom (2 ^ r.zoom) (column_in (f.1 i)) (row_in (f.1 i)) (f.2 i)) 0 (f.3 i)) ∙ list_of r f.0
