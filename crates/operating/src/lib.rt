@@ -38,7 +38,7 @@ pub fn start(
     if journal.len() < written {
         return refused_start(Reply::NoJournalRoom);
     }
-    entries::clear_all(operations);
+    operations.fill(0);
     journal::write_rule(journal, rule);
     let begun = soundness::fresh_session(rule, tiles, count);
     Outcome {

@@ -31,4 +31,4 @@ returns c =
     let room = rw c.rule_size-written.ensures at c.if-journal-written.false in
     let begun = c.advanced.ensures ∙ (λ i. advanced_by (c.fresh_session-begun.ensures i) (c.rule_size-written.ensures i)) in
     start_done a.rule a.tiles.now a.count a.operations.now a.journal.now (sym (c.can_start.ensures a.rule) ∙ c.if-not-can_start.false) room _ begun _ _
-    c.clear_all.ensures c.write_rule.ensures
+    (c.fill.ensures.after (λ y e. e)) c.write_rule.ensures
