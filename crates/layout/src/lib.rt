@@ -19,7 +19,10 @@ pub fn entry(sheet: u16, kind: usize, job: u8, key: u32) -> u64
     requires { kind ≤ 6 }
     ensures { result ≡ pack_entry sheet kind job key }
 {
-    u64::from(sheet) * SHEET_FACTOR + kind as u64 * KIND_FACTOR + u64::from(job) * JOB_FACTOR + u64::from(key)
+    u64::from(sheet) * SHEET_FACTOR
+        + kind as u64 * KIND_FACTOR
+        + u64::from(job) * JOB_FACTOR
+        + u64::from(key)
 }
 
 pub fn sheet_in(e: u64) -> u16
