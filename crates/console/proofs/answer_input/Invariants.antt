@@ -1,12 +1,11 @@
 -- a read fills more of the space, and a line takes one of those that may come
-use Rattle.std.proofs.Common.{◌≡◌, ◌*◌, ◌+◌, ◌-◌, ◌≤◌, length}
+use Rattle.std.proofs.Common.{◌*◌, ◌+◌, ◌-◌, ◌≤◌}
 use Rattle.desk.specs.Lent.{Lent}
 use Rattle.console.proofs.answer_input.Given as goal
 
 abbrev pub invariant-loop-reached : goal.invariant-loop-reached
 invariant-loop-reached l =
-    (l.reached.at ≤ 65536) × (length l.space ≡ length l.initial.space)
-    × (length l.tiles ≡ length l.initial.tiles) × (length l.operations ≡ length l.initial.operations) × (length l.journal ≡ length l.initial.journal)
+    (l.reached.at ≤ 65536)
     × Lent l.reached.desk l.initial.tiles l.initial.operations l.initial.journal
 
 abbrev pub decreases-loop-reached : goal.decreases-loop-reached
