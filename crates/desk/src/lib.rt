@@ -13,7 +13,8 @@ use terminal::Output;
 mod calls;
 mod outside;
 
-// The session, and how many places of each table are lent.
+// The session, and how many places of each table are lent. The tables go beside it, each as a slice: that a slice keeps its length is said by its type, and a struct
+// of the three would need a clause for that in every function that is lent it.
 #[derive(Clone, Copy)]
 pub struct Desk {
     pub session: Session,
