@@ -1,7 +1,8 @@
 -- Whether an operation is admitted, and what the search for its tile finds; and if not, why
-use Rattle.std.specs.Prelude.{◌&&◌, cond, Result, Ok, Err, ℕ, eqb, length}
+use Rattle.std.specs.Prelude.{◌&&◌, cond, Result, Ok, Err, List, map, ℕ, eqb, length}
 use Rattle.std.proofs.Math.Option.{Option, none, some}
 use Rattle.service.specs.Admission.{State}
+use Rattle.service.specs.Entry.{op_in}
 use Rattle.service.specs.declared.Reply.TheVariants as reply
 use Rattle.service.specs.declared.Reply.{Reply}
 use Rattle.strict.specs.Book.{Book, held_by, needs_place, places_taken}
@@ -14,6 +15,10 @@ use Rattle.tiles.specs.declared.Spot.{Spot}
 use Rattle.admission.specs.declared.Hindrance.TheVariants.{Held, NoOperationRoom, NoTileRoom}
 use Rattle.admission.specs.declared.Hindrance.{Hindrance}
 use Rattle.admission.specs.declared.Holder.{Holder}
+
+-- what the keys of the tiles and the entries say
+abbrev pub book_of : List ℕ → List ℕ → Book
+book_of t es = record { tiles = t; table = map op_in es }
 
 abbrev pub holder_of : Signature → Holder
 holder_of by = record { job = by.job; sheet = by.sheet }

@@ -4,14 +4,15 @@
 ghost use Rattle.std.specs.Prelude.{◌&&◌, [], ◌≡◌, eqb, length};
 ghost use Rattle.strict.specs.Book.{places_taken};
 ghost use Rattle.strict.specs.Operations as report;
+ghost use Rattle.strict.specs.Tiles.{Ascending};
 ghost use Rattle.service.specs.Sound.{Tabled};
 ghost use Rattle.service.specs.World.{state, world};
 ghost use Rattle.rules.specs.Rules.{wants_place};
-ghost use Rattle.admission.specs.Verdicts.{reply_of, unheld_of, verdict_of};
+ghost use Rattle.admission.specs.Verdicts.{book_of, reply_of, unheld_of, verdict_of};
 ghost use Rattle.admission.specs.declared.Hindrance.TheVariants.{Held};
 
 use service::{Reply, Session};
-use strict::Procedure;
+use strict::{Procedure, Rule};
 use tiles::Spot;
 
 // Whose entry holds an operation: its job, and the sheet for which it was made.
@@ -73,25 +74,24 @@ pub fn answer(procedure: Procedure, found: bool) -> bool
     }
 }
 
-// What the search for the tile `key` found, or whose entry is the first that holds the operation.
+// What the search for the tile `key` found among the keys of the tiles, or whose entry is the first that holds the operation.
 pub fn unheld(
-    session: Session,
-    tiles: &[u32],
-    operations: &[u64],
+    rule: Rule,
+    keys: &[u32],
+    entries: &[u64],
     job: u8,
     procedure: Procedure,
     key: u32,
 ) -> Result<Spot, Holder>
-    requires { Tabled (world session tiles.now operations.now []) }
-    ensures { result ≡ unheld_of session.rule (state (world session tiles.now operations.now [])).book job procedure key }
+    requires { Ascending keys.now }
+    ensures { result ≡ unheld_of rule (book_of keys.now entries.now) job procedure key }
 {
-    let used = session.operations;
-    let spot = tiles::find(tiles, session.tiles, key);
+    let spot = tiles::find(keys, key);
     let kind = kind(procedure, spot.there);
-    match rules::first_holder(session.rule, operations, used, job, kind, key) {
+    match rules::first_holder(rule, entries, job, kind, key) {
         None => Ok(spot),
         Some(place) => {
-            let e = operations[place];
+            let e = entries[place];
             Err(Holder {
                 job: layout::job_in(e),
                 sheet: layout::sheet_in(e),
@@ -107,7 +107,7 @@ fn lacks_place(session: Session, tiles: &[u32], operations: &[u64], kind: usize,
         && eqb (places_taken session.rule (state (world session tiles.now operations.now [])).book) (length tiles.now)) }
 {
     session.tiles + session.spoken >= tiles.len()
-        && rules::needs_place(session.rule, operations, session.operations, kind, key)
+        && rules::needs_place(session.rule, &operations[..session.operations], kind, key)
 }
 
 // Judges an operation and writes nothing: first the holder, then tile room, then operation room.
@@ -124,7 +124,9 @@ pub fn admit(
     ensures { result ≡ verdict_of (length tiles.now) (length operations.now)
         (state (world session tiles.now operations.now [])) job procedure key }
 {
-    let spot = unheld(session, tiles, operations, job, procedure, key)?;
+    let keys = &tiles[..session.tiles];
+    let entries = &operations[..session.operations];
+    let spot = unheld(session.rule, keys, entries, job, procedure, key)?;
     let kind = kind(procedure, spot.there);
     if lacks_place(session, tiles, operations, kind, key) {
         return Err(Hindrance::NoTileRoom);

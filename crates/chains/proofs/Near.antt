@@ -43,10 +43,9 @@ module _ {A : Type 0} (F : List ℕ → A) (test : ℕ → Bool) (passes : (f : 
   same_from i low free = same_by (from - i) i (omega arith) free
 
 module _ (recorded : ℕ → Bool) (l : List ℕ) where
-  pub near_start : (end : ℕ) → end ≡ length l → Nearest recorded l (replicate 16384 end) (length l)
-  near_start end all key =
-      let found : get_or (replicate 16384 end) (near_slot key) 0 ≡ end = get_or-replicate 16384 (near_slot key) end 0 (omega arith) in
-      rw (found, all) (record { low = omega arith; high = omega arith; free = rw (slice_end l (length l) (length l) (omega arith)) })
+  pub near_start : Nearest recorded l (replicate 16384 (length l)) (length l)
+  near_start key =
+      rw (get_or-replicate 16384 (near_slot key) (length l) 0 (omega arith)) (record { low = omega arith; high = omega arith; free = rw (slice_end l (length l) (length l) (omega arith)) })
 
   module _ (i : ℕ) (inside : i < length l) where
     one_before : (key from : ℕ) → passed_by recorded key (get_or l i 0) ≡ true → Reaches recorded key l (i + 1) from → Reaches recorded key l i from

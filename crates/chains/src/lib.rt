@@ -1,21 +1,19 @@
 // The tests of the rule that the entries of a job fail as one: what changed a tile goes on from what changed it before.
 #![tactic(auto)]
 
-ghost use Rattle.std.specs.Prelude.{◌&&◌, ◌||◌, not, true, map, ◌≡◌, ◌+◌, ◌<◌, ◌≤◌, drop, eqb, get_or, length, take};
+ghost use Rattle.std.specs.Prelude.{◌&&◌, ◌||◌, not, true, map, ◌≡◌, ◌+◌, ◌<◌, ◌≤◌, drop, eqb, get_or, length};
 ghost use Rattle.std.proofs.Math.Seq.{slice};
 ghost use Rattle.strict.specs.Book.{counted_of, deleted};
-ghost use Rattle.strict.specs.Tiles.{member};
+ghost use Rattle.strict.specs.Tiles.{Ascending, member};
 ghost use Rattle.strict.specs.declared.Rule.TheVariants.{Together};
 ghost use Rattle.service.specs.Entry.{key_in, kind_in, op_in};
 ghost use Rattle.service.specs.Sound.{settled_B};
-ghost use Rattle.search.specs.Table.{TileTable};
 ghost use Rattle.layout.specs.Whose.{meant};
 ghost use Rattle.filter.specs.Filter.{elsewhere};
 ghost use Rattle.settling.specs.Tests.{settled_at};
 ghost use Rattle.chains.specs.Chains.{followed, linked, near_slot, passed};
 
 use layout::Whose;
-use service::Session;
 
 // The slot of a tile among those of the nearest entries, of which there are 16,384.
 fn slot_of(key: u32) -> usize
@@ -32,51 +30,36 @@ fn is_delete_of(e: u64, key: u32) -> bool
 }
 
 // Whether some entry deleted the tile `key`.
-fn some_deleted(entries: &[u64], key: u32) -> bool
+pub fn is_deleted(entries: &[u64], key: u32) -> bool
     ensures { result ≡ deleted key (map op_in entries.now) }
 {
     entries.iter().any(|e| is_delete_of(*e, key))
 }
 
-// Whether some used entry deleted the tile `key`.
-pub fn is_deleted(operations: &[u64], count: usize, key: u32) -> bool
-    requires { count ≤ length operations.now }
-    ensures { result ≡ deleted key (map op_in (take count operations.now)) }
-{
-    some_deleted(&operations[..count], key)
-}
-
 // Whether an entry is meant, and its tile is absent and none of the later ones deleted it.
-fn is_last_absent(tiles: &[u32], used: usize, e: u64, later: &[u64], whose: Whose) -> bool
-    requires { TileTable tiles.now used }
+fn is_last_absent(keys: &[u32], e: u64, later: &[u64], whose: Whose) -> bool
+    requires { Ascending keys.now }
     ensures { result ≡ (meant whose (op_in e)
-        && not (member (key_in e) (take used tiles.now) || deleted (key_in e) (map op_in later.now))) }
+        && not (member (key_in e) keys.now || deleted (key_in e) (map op_in later.now))) }
 {
     let key = layout::key_in(e);
-    layout::is_meant(e, whose) && !tiles::is_present(tiles, used, key) && !some_deleted(later, key)
+    layout::is_meant(e, whose) && !tiles::is_present(keys, key) && !is_deleted(later, key)
 }
 
 // How many absent tiles have an unfinished delete, each counted once, at its last, where that is meant. From the last entry to the first, with the nearest
 // later delete of each slot, or the end: before it none deleted a tile of that slot.
-pub fn count_absent(
-    tiles: &[u32],
-    used: usize,
-    operations: &[u64],
-    count: usize,
-    whose: Whose,
-) -> usize
-    requires { TileTable tiles.now used × (count ≤ length operations.now) × (count ≤ 1024) }
-    ensures { (result ≡ counted_of (meant whose) (take used tiles.now) (map op_in (take count operations.now))) × (result ≤ count) }
+pub fn count_absent(keys: &[u32], entries: &[u64], whose: Whose) -> usize
+    requires { Ascending keys.now × (length entries.now ≤ 1024) }
+    ensures { (result ≡ counted_of (meant whose) keys.now (map op_in entries.now)) × (result ≤ length entries.now) }
 {
-    let entries = &operations[..count];
-    let mut deletes = [count as u16; 16384];
+    let mut deletes = [entries.len() as u16; 16384];
     let mut absent = 0;
     for i in (0..entries.len()).rev() {
         let e = entries[i];
         if layout::kind_in(e) == 3 {
             let s = slot_of(layout::key_in(e));
             let later = &entries[usize::from(deletes[s])..];
-            if is_last_absent(tiles, used, e, later, whose) {
+            if is_last_absent(keys, e, later, whose) {
                 absent += 1;
             }
             deletes[s] = i as u16;
@@ -102,41 +85,40 @@ fn is_linked(e: u64, f: u64) -> bool
 
 // Whether what comes after `e`, that changed its tile, goes on from it: the first that decides does, and where there is none the tile is as `e` left it.
 // It is left at that first one: where deleted tiles are inserted again few are looked at.
-fn is_followed(tiles: &[u32], used: usize, e: u64, later: &[u64]) -> bool
-    requires { TileTable tiles.now used }
-    ensures { result ≡ followed (take used tiles.now) e later.now }
+fn is_followed(keys: &[u32], e: u64, later: &[u64]) -> bool
+    requires { Ascending keys.now }
+    ensures { result ≡ followed keys.now e later.now }
 {
     for f in later {
         if !is_passed(e, *f) {
             return is_linked(e, *f);
         }
     }
-    settling::as_left(tiles, used, e)
+    settling::as_left(keys, e)
 }
 
 // Whether an entry is settled, where all after it are, and none before `from` has its tile.
-fn entry_chained(tiles: &[u32], used: usize, entries: &[u64], at: usize, from: usize) -> bool
-    requires { TileTable tiles.now used × (at < from) × (from ≤ length entries.now)
+fn entry_chained(keys: &[u32], entries: &[u64], at: usize, from: usize) -> bool
+    requires { Ascending keys.now × (at < from) × (from ≤ length entries.now)
         × (elsewhere (key_in (get_or entries.now at 0)) (slice (at + 1) from entries.now) ≡ true)
-        × (settled_B Together (take used tiles.now) (drop (at + 1) entries.now) ≡ true) }
-    ensures { result ≡ settled_at Together (take used tiles.now) (drop (at + 1) entries.now) (get_or entries.now at 0) }
+        × (settled_B Together keys.now (drop (at + 1) entries.now) ≡ true) }
+    ensures { result ≡ settled_at Together keys.now (drop (at + 1) entries.now) (get_or entries.now at 0) }
 {
     let e = entries[at];
-    !settling::is_changing(e) || is_followed(tiles, used, e, &entries[from..])
+    !settling::is_changing(e) || is_followed(keys, e, &entries[from..])
 }
 
 // Whether the tiles are as the entries left them, by the rule that those of a job fail as one. From the last entry to the first, with the nearest later
 // entry of each slot, or the end: before it none has a tile of that slot. `count_absent` and `settling::is_settled` pass over the entries the same way, but
 // with another table and another question: one function that is handed these as closures would be no shorter, and its clauses would name them all.
-pub fn is_chained(session: Session, tiles: &[u32], operations: &[u64]) -> bool
-    requires { TileTable tiles.now session.tiles × (session.operations ≤ length operations.now) × (session.operations ≤ 1024) }
-    ensures { result ≡ settled_B Together (take session.tiles tiles.now) (take session.operations operations.now) }
+pub fn is_chained(keys: &[u32], entries: &[u64]) -> bool
+    requires { Ascending keys.now × (length entries.now ≤ 1024) }
+    ensures { result ≡ settled_B Together keys.now entries.now }
 {
-    let entries = &operations[..session.operations];
-    let mut near = [session.operations as u16; 16384];
+    let mut near = [entries.len() as u16; 16384];
     for i in (0..entries.len()).rev() {
         let s = slot_of(layout::key_in(entries[i]));
-        if !entry_chained(tiles, session.tiles, entries, i, usize::from(near[s])) {
+        if !entry_chained(keys, entries, i, usize::from(near[s])) {
             return false;
         }
         near[s] = i as u16;

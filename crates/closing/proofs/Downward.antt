@@ -15,20 +15,20 @@ use Rattle.search.specs.Table.{TileTable}
 use Rattle.restoring.specs.Laws.{none_undone, undone_ascending, undone_fits, undone_other, undone_own}
 use Rattle.restoring.specs.Recovery.{Tallied, Undoable, recovered, undone_from}
 
--- the used entries from i on have been undone
-pub record Undoing (i : ℕ) (tiles₀ : List ℕ) (c : Tally) (operations : List ℕ) (used job : ℕ) (tiles : List ℕ) (left : Tally) : Type 0 where
-  pub inside : i ≤ used
-  pub holds : tiles ≡ padded (length tiles₀) (undone_from i job (take used operations) (take c.tiles tiles₀))
-  pub number : left ≡ tally_of (undone_from i job (take used operations) (take c.tiles tiles₀))
+-- the entries from i on have been undone
+pub record Undoing (i : ℕ) (tiles₀ : List ℕ) (c : Tally) (es : List ℕ) (job : ℕ) (tiles : List ℕ) (left : Tally) : Type 0 where
+  pub inside : i ≤ length es
+  pub holds : tiles ≡ padded (length tiles₀) (undone_from i job es (take c.tiles tiles₀))
+  pub number : left ≡ tally_of (undone_from i job es (take c.tiles tiles₀))
 
-module _ {tiles₀ : List ℕ} {c : Tally} {operations : List ℕ} {used : ℕ} (u : Undoable tiles₀ c operations used) (job : ℕ) where
+module _ {tiles₀ : List ℕ} {c : Tally} {es : List ℕ} (u : Undoable tiles₀ c es) (job : ℕ) where
   abbrev From : ℕ → List ℕ → Tally → Type 0
-  From i tiles left = Undoing i tiles₀ c operations used job tiles left
+  From i tiles left = Undoing i tiles₀ c es job tiles left
 
   abbrev undone : ℕ → List ℕ
-  undone i = undone_from i job (take used operations) (take c.tiles tiles₀)
+  undone i = undone_from i job es (take c.tiles tiles₀)
 
-  pub begins : From used tiles₀ c
+  pub begins : From (length es) tiles₀ c
   begins = record { inside = omega arith; holds = rw (none_undone u job) u.tallied.table.zeros_behind; number = rw (none_undone u job) u.tallied.right }
 
   module _ {i : ℕ} {tiles : List ℕ} {left : Tally} (s : From i tiles left) where
@@ -49,7 +49,7 @@ module _ {tiles₀ : List ℕ} {c : Tally} {operations : List ℕ} {used : ℕ} 
 
     module _ (some : 0 < i) where
       abbrev e : ℕ
-      e = get_or operations (i - 1) 0
+      e = get_or es (i - 1) 0
 
       taken : job_in e ≡ job → undone (i - 1) ≡ recovered e (take left.tiles tiles)
       taken own = undone_own u job some s.inside own ∙ ap (recovered e) (sym used_now)

@@ -49,7 +49,7 @@ fn recover(tiles: &mut [u32], tally: Tally, e: u64) -> Tally
 {
     match restoring::recovery(layout::kind_in(e)) {
         Some(procedure) => {
-            let spot = tiles::find(tiles, tally.tiles, layout::key_in(e));
+            let spot = tiles::find(&tiles[..tally.tiles], layout::key_in(e));
             affect_counting(tiles, tally, procedure, spot)
         }
         None => tally,
@@ -57,14 +57,14 @@ fn recover(tiles: &mut [u32], tally: Tally, e: u64) -> Tally
 }
 
 // Runs the recoveries of a job's entries, newest first, one after another. Answers what is counted of the tiles after them.
-fn undo_each(tiles: &mut [u32], tally: Tally, operations: &[u64], used: usize, job: u8) -> Tally
-    requires { Undoable tiles.old tally operations.now used }
-    ensures { (result ≡ tally_of (recovered_job job (take used operations.now) (take tally.tiles tiles.old)))
-        × (tiles.new ≡ padded (length tiles.old) (recovered_job job (take used operations.now) (take tally.tiles tiles.old))) }
+fn undo_each(tiles: &mut [u32], tally: Tally, entries: &[u64], job: u8) -> Tally
+    requires { Undoable tiles.old tally entries.now }
+    ensures { (result ≡ tally_of (recovered_job job entries.now (take tally.tiles tiles.old)))
+        × (tiles.new ≡ padded (length tiles.old) (recovered_job job entries.now (take tally.tiles tiles.old))) }
 {
     let mut left = tally;
-    for i in (0..used).rev() {
-        let e = operations[i];
+    for i in (0..entries.len()).rev() {
+        let e = entries[i];
         if layout::job_in(e) == job {
             left = recover(tiles, left, e);
         }
@@ -73,10 +73,8 @@ fn undo_each(tiles: &mut [u32], tally: Tally, operations: &[u64], used: usize, j
 }
 
 // Whether a job has so many entries that its tiles are restored at once.
-fn has_many(operations: &[u64], used: usize, job: u8) -> bool
-    requires { used ≤ length operations.now }
-{
-    let own = operations[..used]
+fn has_many(entries: &[u64], job: u8) -> bool {
+    let own = entries
         .iter()
         .filter(|e| layout::job_in(**e) == job)
         .count();
@@ -84,15 +82,15 @@ fn has_many(operations: &[u64], used: usize, job: u8) -> bool
 }
 
 // Runs the recoveries of a job's entries, newest first: one after another where they are few, and else all at once.
-fn undo(tiles: &mut [u32], tally: Tally, operations: &[u64], used: usize, job: u8) -> Tally
-    requires { Undoable tiles.old tally operations.now used }
-    ensures { (result ≡ tally_of (recovered_job job (take used operations.now) (take tally.tiles tiles.old)))
-        × (tiles.new ≡ padded (length tiles.old) (recovered_job job (take used operations.now) (take tally.tiles tiles.old))) }
+fn undo(tiles: &mut [u32], tally: Tally, entries: &[u64], job: u8) -> Tally
+    requires { Undoable tiles.old tally entries.now }
+    ensures { (result ≡ tally_of (recovered_job job entries.now (take tally.tiles tiles.old)))
+        × (tiles.new ≡ padded (length tiles.old) (recovered_job job entries.now (take tally.tiles tiles.old))) }
 {
-    if has_many(operations, used, job) {
-        restoring::restore(tiles, tally, operations, used, job)
+    if has_many(entries, job) {
+        restoring::restore(tiles, tally, entries, job)
     } else {
-        undo_each(tiles, tally, operations, used, job)
+        undo_each(tiles, tally, entries, job)
     }
 }
 
@@ -101,7 +99,9 @@ fn spoken_without(session: Session, tiles: &[u32], operations: &[u64], job: u8) 
     requires { Tabled (world session tiles.now operations.now []) }
     ensures { result ≡ spoken_by session.rule (take session.tiles tiles.now) (others job (map op_in (take session.operations operations.now))) }
 {
-    session.spoken - rules::count_spoken(session, tiles, operations, Whose::Jobs(job))
+    let keys = &tiles[..session.tiles];
+    let entries = &operations[..session.operations];
+    session.spoken - rules::count_spoken(session.rule, keys, entries, Whose::Jobs(job))
 }
 
 // Takes a job's entries away and closes it, where so many places are spoken for without them.
@@ -138,7 +138,7 @@ pub fn abort_job(session: Session, tiles: &mut [u32], operations: &mut [u64], jo
 {
     let spoken = spoken_without(session, tiles, operations, job);
     let tally = engine::tally_of(session);
-    let left = undo(tiles, tally, operations, session.operations, job);
+    let left = undo(tiles, tally, &operations[..session.operations], job);
     let next = clear_job(session, operations, job, spoken);
     engine::counting(next, left)
 }

@@ -1,7 +1,7 @@
 -- From the gate and the shape of a rectangle to what the call promises
-use Rattle.std.specs.Prelude.{Bool, Err, not, List, [], ◌∷◌, ◌≡◌, ◌≤◌, ℕ, pos, length, take}
+use Rattle.std.specs.Prelude.{Bool, Err, not, List, [], ◌∷◌, ◌≡◌, ℕ, pos, length}
 use Rattle.std.proofs.Math.Bool.{cond, false, true}
-use Rattle.std.proofs.Common.{◌∙◌, subst, eqb-true, le-ltb, ltb-false}
+use Rattle.std.proofs.Common.{◌∙◌, arith, subst, eqb-true, le-ltb, ltb-false}
 use Rattle.std.proofs.Math.Path.{ap, refl, sym}
 use Rattle.std.proofs.Math.Dec.{eqb}
 use Rattle.std.proofs.lemmas.Bool.{not-false}
@@ -32,13 +32,12 @@ use Rattle.placing.specs.Passes.{Carries, list_after, list_call}
 use Rattle.covering.specs.Asking.{Asks, turns_added}
 
 -- the list as it was written
-pub asks_carries : (w : World) (job : ℕ) (r : Rectangle) (s : Shape) → Asks w job r s → (l : List ℕ) → s.n ≤ length l → take s.n l ≡ keys (listed r)
-    → Carries w job l s.n
-asks_carries w job r s a l fits is =
+pub asks_carries : (w : World) (job : ℕ) (r : Rectangle) (s : Shape) → Asks w job r s → (l : List ℕ) → length l ≡ s.n → l ≡ keys (listed r)
+    → Carries w job l
+asks_carries w job r s a l all is =
     record {
       ready = a.ready;
-      few = shape_few r s a.shape;
-      fits_list = fits;
+      few = omega (arith, all, shape_few r s a.shape);
       valid = subst (All (λ k. is_key k ≡ true)) (sym is) (all_valid r a.shape.0);
       apart = subst Apart (sym is) (all_apart r a.shape.0);
     }

@@ -42,10 +42,10 @@ fn carry_rectangle(
         ≡ list_call (world session tiles.old operations.old journal.old) job sheet procedure (keys_of (listed r)) }
 {
     let mut keys = [0u32; 256];
-    shapes::list_tiles(r, shape, &mut keys);
-    let n = shape.n as usize;
+    let keys = &mut keys[..shape.n as usize];
+    shapes::list_tiles(r, shape, keys);
     placing::carry_list(
-        session, tiles, operations, journal, job, sheet, procedure, &keys, n,
+        session, tiles, operations, journal, job, sheet, procedure, keys,
     )
 }
 

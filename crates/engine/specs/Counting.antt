@@ -2,6 +2,7 @@
 use Rattle.std.specs.Prelude.{Bool, ◌&&◌, cond, false, not, List, map, ◌≡◌, ◌+◌, ◌-◌, ◌<◌, ◌≤◌, ℕ, eqb, length, take}
 use Rattle.strict.specs.Operations.{kind}
 use Rattle.strict.specs.declared.Procedure.{Procedure}
+use Rattle.strict.specs.declared.Rule.{Rule}
 use Rattle.service.specs.Entry.{op_in}
 use Rattle.service.specs.Limits.{most_operations, most_tiles}
 use Rattle.service.specs.declared.Session.{Session}
@@ -26,17 +27,16 @@ abbrev pub wants : Session → List ℕ → ℕ → ℕ → Bool
 wants s o n k = wants_place s.rule (map op_in (take s.operations o)) n k
 
 -- what lets the places spoken for move by one
-pub record Speaks (s : Session) (o : List ℕ) (n k : ℕ) : Type 0 where
-  pub fits : s.operations ≤ length o
-  pub few : s.spoken ≤ most_tiles
-  pub some : n ≡ 1 → wants s o n k ≡ false → 0 < s.spoken
+pub record Speaks (r : Rule) (spoken : ℕ) (es : List ℕ) (n k : ℕ) : Type 0 where
+  pub few : spoken ≤ most_tiles
+  pub some : n ≡ 1 → wants_place r (map op_in es) n k ≡ false → 0 < spoken
 
 -- an operation may be entered, where its tile is there or not; and the session behind it
 pub record Enters (s : Session) (o : List ℕ) (p : Procedure) (k : ℕ) (there : Bool) : Type 0 where
   pub slot : s.operations < length o
   pub few_slots_lem : length o ≤ most_operations
   pub movable : Movable (tally_in s) k there
-  pub speaks : Speaks s o (kind p there) k
+  pub speaks : Speaks s.rule s.spoken (take s.operations o) (kind p there) k
 
 abbrev pub entered : Session → List ℕ → Procedure → ℕ → Bool → Session
 entered s o p k there =

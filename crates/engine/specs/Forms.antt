@@ -175,7 +175,6 @@ module _ (w : World) (few : length w.session.marks ≡ 64) where
           few_slots_lem = o.few_operations;
           movable = tally_may w o job sheet p key r.named.1;
           speaks = record {
-            fits = o.operations_fit;
             few = let a = o.room in let b = o.few_tiles in let c = o.spoken_counted in omega arith;
             some = spoken_some w o job sheet p key;
           };

@@ -2,7 +2,7 @@
 // covers is said of it and of entries that stand elsewhere, so that a type of its own could not say it.
 #![tactic(auto)]
 
-ghost use Rattle.std.specs.Prelude.{false, true, List, ◌∷◌, ◌≡◌, ◌<◌, ◌≤◌, ◌/◌, ◌%◌, ℕ, eqb, length, take};
+ghost use Rattle.std.specs.Prelude.{false, true, List, ◌∷◌, ◌≡◌, ◌<◌, ◌/◌, ◌%◌, ℕ, eqb, length};
 ghost use Rattle.service.specs.Entry.{key_in};
 ghost use Rattle.filter.specs.Filter.{Covers, bit_in, elsewhere, slot_of};
 
@@ -54,13 +54,12 @@ pub fn meet(seen: &mut [u64; 1024], key: u32)
     seen[w] = with_bit(seen[w], place);
 }
 
-// A filter that has met the tile of each used entry.
-pub fn meet_all(operations: &[u64], count: usize) -> [u64; 1024]
-    requires { count ≤ length operations.now }
-    ensures { (length result ≡ 1024) × Covers result (take count operations.now) }
+// A filter that has met the tile of each entry.
+pub fn meet_all(entries: &[u64]) -> [u64; 1024]
+    ensures { (length result ≡ 1024) × Covers result entries.now }
 {
     let mut met = [0; 1024];
-    for e in &operations[..count] {
+    for e in entries {
         meet(&mut met, layout::key_in(*e));
     }
     met

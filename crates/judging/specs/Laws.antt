@@ -1,8 +1,8 @@
 -- From turn to turn of the pass that decides, and what a list is told
-use Rattle.std.specs.Prelude.{Bool, Result, Ok, Err, false, not, true, ◌≡◌, ◌+◌, ◌<◌, ◌≤◌, ℕ, drop, eqb, get_or, length, take}
+use Rattle.std.specs.Prelude.{Bool, Result, Ok, Err, false, not, true, ◌≡◌, ◌+◌, ◌<◌, ◌≤◌, ℕ, drop, eqb, get_or, length}
 use mathlib.Core.List.{List, [], ◌∷◌, map}
 use Rattle.std.proofs.Math.Option.{Option, none, some}
-use Rattle.std.proofs.Common.{◌∙◌, ap₂, sym, length-take-le}
+use Rattle.std.proofs.Common.{◌∙◌, sym}
 use Rattle.std.proofs.Math.Path.{ap, refl, subst}
 use native.Mathlib.Omega.{arith}
 use Rattle.std.proofs.lemmas.Bool.{eqb-false, not-true}
@@ -25,7 +25,7 @@ use Rattle.filter.specs.Filter.{elsewhere}
 use Rattle.rules.specs.Laws.{place_wanted, unmet_wants}
 use Rattle.judging.specs.Looks.{list_of, look_of, room_for}
 use Rattle.admission.specs.Laws as one
-use Rattle.admission.specs.Verdicts.{held_or}
+use Rattle.admission.specs.Verdicts.{book_of, held_or}
 use Rattle.rules.specs.Rules.{wants_place}
 use Rattle.tiles.specs.declared.Spot.{Spot}
 use Rattle.admission.specs.declared.Holder.{Holder}
@@ -67,10 +67,10 @@ none_there b o (e ∷ es) h =
     rw (holds_not b o (op_in e) (eqb-false o.key (key_in e) (not-true (eqb o.key (key_in e)) two.0))) (none_there b o es two.1)
 
 pub apart_free : (b : Rule) (t es : List ℕ) (job : ℕ) (p : Procedure) (k : ℕ) → elsewhere k es ≡ true
-    → Ok (eqb (kind p (member k t)) 1) ≡ look_of b (record { tiles = t; table = map op_in es }) job p k
+    → Ok (eqb (kind p (member k t)) 1) ≡ look_of b (book_of t es) job p k
 apart_free b t es job p k h =
     let o = begun job p k t in
-    free b (record { tiles = t; table = map op_in es }) job p k _ (none_there b o es h) (place_wanted job p k t b (map op_in es) ∙ unmet_wants b es (kind p (member k t)) k h)
+    free b (book_of t es) job p k _ (none_there b o es h) (place_wanted job p k t b (map op_in es) ∙ unmet_wants b es (kind p (member k t)) k h)
 
 pub one_more : (b : Bool) → one_if b ≤ 1
 one_more true = omega arith
@@ -129,19 +129,14 @@ needed_few b m job p [] = omega arith
 needed_few b m job p (k ∷ ks) = let ih = needed_few b m job p ks in let o = one_more (needs_place b m.table (begun job p k m.tiles)) in omega arith
 
 -- 6, AND THEN THE ROOM
-module _ (w : World) (job : ℕ) (p : Procedure) (l : List ℕ) (n : ℕ) (fits : n ≤ length l) where
-  abbrev ks : List ℕ
-  ks = take n l
-
+module _ (w : World) (job : ℕ) (p : Procedure) (ks : List ℕ) where
   pub held_told : (by : Holder) → Finds w.session.rule (state w).book job p ks (Err by)
       → told_held (record { job = by.job; sheet = by.sheet }) ≡ decided (list_refusals w job p ks) (bare 0)
   held_told by h = rw h
 
   module _ (need : ℕ) (h : Finds w.session.rule (state w).book job p ks (Ok need)) where
-    pub need_few : n ≤ most_in_rectangle → need ≤ most_in_rectangle
-    need_few few = let a = needed_few w.session.rule (state w).book job p ks in let b = h.1 in let c = length-take-le n l fits in omega arith
+    pub need_few : length ks ≤ most_in_rectangle → need ≤ most_in_rectangle
+    need_few few = let a = needed_few w.session.rule (state w).book job p ks in let b = h.1 in omega arith
 
-    pub room_told : (t : Told) → t ≡ decided (room_for w need n) (bare 0) → t ≡ decided (list_refusals w job p ks) (bare 0)
-    room_told t e =
-        let long : length ks ≡ n = length-take-le n l fits in
-        e ∙ sym (rw h.0 (ap₂ (λ a b. decided (room_for w a b) (bare 0)) h.1 long))
+    pub room_told : (t : Told) → t ≡ decided (room_for w need (length ks)) (bare 0) → t ≡ decided (list_refusals w job p ks) (bare 0)
+    room_told t e = e ∙ sym (rw h.0 (ap (λ a. decided (room_for w a (length ks)) (bare 0)) h.1))

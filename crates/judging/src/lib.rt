@@ -1,77 +1,75 @@
 // A list of tiles judged as a whole, before anything is written.
 #![tactic(auto)]
 
-ghost use Rattle.std.specs.Prelude.{false, true, [], ◌≡◌, ◌≤◌, length, take};
-ghost use Rattle.service.specs.Sound.{Sound, Tabled};
+ghost use Rattle.std.specs.Prelude.{false, true, ◌≡◌, ◌≤◌, length};
+ghost use Rattle.strict.specs.Tiles.{Ascending};
+ghost use Rattle.service.specs.Sound.{Sound};
 ghost use Rattle.service.specs.Told.{bare, decided, told};
-ghost use Rattle.service.specs.World.{state, world};
+ghost use Rattle.service.specs.World.{world};
 ghost use Rattle.rectangles.specs.Rectangles.{list_refusals, most_in_rectangle};
-ghost use Rattle.filter.specs.Filter.{Covers, elsewhere};
+ghost use Rattle.filter.specs.Filter.{elsewhere};
+ghost use Rattle.admission.specs.Verdicts.{book_of};
 ghost use Rattle.judging.specs.Looks.{list_of, look_of, room_for};
 
 use admission::{Hindrance, Holder};
 use service::{OPERATION_SIZE, Reply, SHORT_SIZE, Session};
-use strict::Procedure;
+use strict::{Procedure, Rule};
 
 // Whether one tile of a list needs a place, or who holds it, on the tables as they stand.
 fn look_at(
-    session: Session,
-    tiles: &[u32],
-    operations: &[u64],
+    rule: Rule,
+    keys: &[u32],
+    entries: &[u64],
     job: u8,
     procedure: Procedure,
     key: u32,
 ) -> Result<bool, Holder>
-    requires { Tabled (world session tiles.now operations.now []) }
-    ensures { result ≡ look_of session.rule (state (world session tiles.now operations.now [])).book job procedure key }
+    requires { Ascending keys.now }
+    ensures { result ≡ look_of rule (book_of keys.now entries.now) job procedure key }
 {
-    let used = session.operations;
-    let spot = admission::unheld(session, tiles, operations, job, procedure, key)?;
+    let spot = admission::unheld(rule, keys, entries, job, procedure, key)?;
     let kind = admission::kind(procedure, spot.there);
-    Ok(rules::needs_place(session.rule, operations, used, kind, key))
+    Ok(rules::needs_place(rule, entries, kind, key))
 }
 
 // The same, where `met` is false only if no entry has the tile: then the entries are not looked at.
 fn look_past(
-    session: Session,
-    tiles: &[u32],
-    operations: &[u64],
+    rule: Rule,
+    keys: &[u32],
+    entries: &[u64],
     job: u8,
     procedure: Procedure,
     key: u32,
     met: bool,
 ) -> Result<bool, Holder>
-    requires { Tabled (world session tiles.now operations.now []) × (met ≡ false → elsewhere key (take session.operations operations.now) ≡ true) }
-    ensures { result ≡ look_of session.rule (state (world session tiles.now operations.now [])).book job procedure key }
+    requires { Ascending keys.now × (met ≡ false → elsewhere key entries.now ≡ true) }
+    ensures { result ≡ look_of rule (book_of keys.now entries.now) job procedure key }
 {
     if met {
-        return look_at(session, tiles, operations, job, procedure, key);
+        return look_at(rule, keys, entries, job, procedure, key);
     }
-    let there = tiles::is_present(tiles, session.tiles, key);
+    let there = tiles::is_present(keys, key);
     Ok(admission::kind(procedure, there) == 1)
 }
 
-// How many of the first n keys need a place, or who holds the first that is held. They differ, so each is judged on the tables as they stand.
-// The filter has met the tile of each used entry.
+// How many tiles of a list need a place, or who holds the first that is held. They differ, so each is judged on the tables as they stand.
+// The filter meets the tile of each entry first.
 fn look_all(
-    session: Session,
-    tiles: &[u32],
-    operations: &[u64],
-    filter: &[u64; 1024],
+    rule: Rule,
+    keys: &[u32],
+    entries: &[u64],
     job: u8,
     procedure: Procedure,
-    keys: &[u32],
-    n: usize,
+    list: &[u32],
 ) -> Result<usize, Holder>
-    requires { Tabled (world session tiles.now operations.now []) × (n ≤ length keys.now) × (n ≤ most_in_rectangle)
-        × (length filter.now ≡ 1024) × Covers filter.now (take session.operations operations.now) }
-    ensures { result ≡ list_of session.rule (state (world session tiles.now operations.now [])).book job procedure
-        (take n keys.now) }
+    requires { Ascending keys.now × (length list.now ≤ most_in_rectangle) }
+    ensures { result ≡ list_of rule (book_of keys.now entries.now) job procedure list.now }
 {
+    let filter = filter::meet_all(entries);
     let mut need = 0;
-    for key in &keys[..n] {
-        let met = filter::is_met(filter, *key);
-        if look_past(session, tiles, operations, job, procedure, *key, met)? {
+    for key in list {
+        let met = filter::is_met(&filter, *key);
+        if look_past(rule, keys, entries, job, procedure, *key, met)? {
             need += 1;
         }
     }
@@ -107,7 +105,7 @@ fn lacking(
     }
 }
 
-// What the operations on a list of keys reply as a whole: 6, then 7, 8 and 9.
+// What the operations on a list of tiles reply as a whole: 6, then 7, 8 and 9.
 pub fn judge_list(
     session: Session,
     tiles: &[u32],
@@ -115,16 +113,16 @@ pub fn judge_list(
     journal: &[u8],
     job: u8,
     procedure: Procedure,
-    keys: &[u32],
-    n: usize,
+    list: &[u32],
 ) -> Reply
-    requires { Sound (world session tiles.now operations.now journal.now) × (n ≤ length keys.now) × (n ≤ most_in_rectangle) }
+    requires { Sound (world session tiles.now operations.now journal.now) × (length list.now ≤ most_in_rectangle) }
     ensures { told result
-        ≡ decided (list_refusals (world session tiles.now operations.now journal.now) job procedure (take n keys.now)) (bare 0) }
+        ≡ decided (list_refusals (world session tiles.now operations.now journal.now) job procedure list.now) (bare 0) }
 {
-    let filter = filter::meet_all(operations, session.operations);
-    match look_all(session, tiles, operations, &filter, job, procedure, keys, n) {
-        Ok(need) => lacking(session, tiles, operations, journal, need, n),
+    let keys = &tiles[..session.tiles];
+    let entries = &operations[..session.operations];
+    match look_all(session.rule, keys, entries, job, procedure, list) {
+        Ok(need) => lacking(session, tiles, operations, journal, need, list.len()),
         Err(by) => Reply::from(Hindrance::Held(by)),
     }
 }

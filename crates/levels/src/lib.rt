@@ -1,12 +1,12 @@
 // The tiles of each level: counted in a tile table, and kept where a tile comes or goes.
 #![tactic(auto)]
 
-ghost use Rattle.std.specs.Prelude.{true, ◌≡◌, ◌<◌, ◌≤◌, get_or, length, take};
+ghost use Rattle.std.specs.Prelude.{true, ◌≡◌, ◌<◌, ◌≤◌, get_or, length};
 ghost use Rattle.lists.specs.Lists.{All, same_numbers};
+ghost use Rattle.strict.specs.Tiles.{Ascending};
 ghost use Rattle.grid.specs.Levels.{level_place, levels_of};
 ghost use Rattle.grid.specs.Tile.{is_key};
 ghost use Rattle.service.specs.Limits.{most_tiles};
-ghost use Rattle.search.specs.Table.{TileTable};
 ghost use Rattle.levels.specs.Tally.{Movable, lowered, raised, tally_after};
 
 use address::Level;
@@ -65,15 +65,15 @@ pub fn after(tally: Tally, procedure: Procedure, spot: Spot) -> Tally
 }
 
 // The tiles of each level, counted anew: the keys ascend, so that those of a level stand between the places of two numbers.
-pub fn count_levels(tiles: &[u32], count: usize) -> [usize; 11]
-    requires { TileTable tiles.now count × All (λ k. is_key k ≡ true) (take count tiles.now) }
-    ensures { result ≡ levels_of (take count tiles.now) }
+pub fn count_levels(keys: &[u32]) -> [usize; 11]
+    requires { Ascending keys.now × All (λ k. is_key k ≡ true) keys.now }
+    ensures { result ≡ levels_of keys.now }
 {
     let mut levels = [0; 11];
     let mut below = 0;
     for (i, level) in levels.iter_mut().enumerate() {
         let next = (i as u32 + NEXT_ZOOM) * ZOOM_FACTOR;
-        let end = search::position(tiles, count, next);
+        let end = search::position(keys, next);
         *level = end - below;
         below = end;
     }

@@ -40,7 +40,7 @@ pub fn start(
     }
     operations.fill(0);
     journal::write_rule(journal, rule);
-    let begun = soundness::fresh_session(rule, tiles, count);
+    let begun = soundness::fresh_session(rule, &tiles[..count]);
     Outcome {
         reply: Reply::Done {
             answer: false,

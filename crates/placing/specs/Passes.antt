@@ -1,5 +1,5 @@
 -- What the pass over a list of keys that carries out asks for and promises
-use Rattle.std.specs.Prelude.{cond, true, List, ◌≡◌, ◌≤◌, ℕ, eqb, length, take}
+use Rattle.std.specs.Prelude.{cond, true, List, ◌≡◌, ◌≤◌, ℕ, eqb, length}
 use Rattle.lists.specs.Lists.{All}
 use Rattle.strict.specs.declared.Procedure.{Procedure}
 use Rattle.grid.specs.Tile.{is_key}
@@ -17,10 +17,9 @@ list_after w job sheet p ks t = record { told = t; after = cond (eqb t.number 0)
 unfoldable pub list_call : World → ℕ → ℕ → Procedure → List ℕ → Reported
 list_call w job sheet p ks = list_after w job sheet p ks (decided (list_refusals w job p ks) (bare 0))
 
--- 1, 2 and 3 do not refuse, and the first n of l are keys of different tiles
-pub record Carries (w : World) (job : ℕ) (l : List ℕ) (n : ℕ) : Type 0 where
+-- 1, 2 and 3 do not refuse, and ks are keys of different tiles
+pub record Carries (w : World) (job : ℕ) (ks : List ℕ) : Type 0 where
   pub ready : Serves w job
-  pub few : n ≤ most_in_rectangle
-  pub fits_list : n ≤ length l
-  pub valid : All (λ k. is_key k ≡ true) (take n l)
-  pub apart : Apart (take n l)
+  pub few : length ks ≤ most_in_rectangle
+  pub valid : All (λ k. is_key k ≡ true) ks
+  pub apart : Apart ks

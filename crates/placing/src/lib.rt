@@ -1,7 +1,7 @@
 // The operations on a list of keys: judged as a whole before a byte is written, and then carried out, with one pass over the tiles.
 #![tactic(auto)]
 
-ghost use Rattle.std.specs.Prelude.{◌≡◌, ◌≤◌, length, take};
+ghost use Rattle.std.specs.Prelude.{◌≡◌};
 ghost use Rattle.strict.specs.Tiles.{Ascending};
 ghost use Rattle.service.specs.World.{reported, world};
 ghost use Rattle.rectangles.specs.Fitting.{Ahead};
@@ -35,7 +35,7 @@ fn place_run(
     reached
 }
 
-// Carries out the operations on n keys that all may happen, run after run: a rectangle has one, and two where it crosses 180 degrees.
+// Carries out the operations on a list of keys that all may happen, run after run: a rectangle has one, and two where it crosses 180 degrees.
 fn place_all(
     session: Session,
     tiles: &mut [u32],
@@ -45,30 +45,20 @@ fn place_all(
     sheet: u16,
     procedure: Procedure,
     keys: &[u32],
-    n: usize,
 ) -> Session
-    requires { (n ≤ length keys.now)
-        × Ahead job sheet procedure (world session tiles.old operations.old journal.old) (take n keys.now)
-        (world session tiles.old operations.old journal.old) (take n keys.now) }
+    requires { Ahead job sheet procedure (world session tiles.old operations.old journal.old) keys.now
+        (world session tiles.old operations.old journal.old) keys.now }
     ensures { world result tiles.new operations.new journal.new
-        ≡ carried_all (world session tiles.old operations.old journal.old) job sheet procedure (take n keys.now) }
+        ≡ carried_all (world session tiles.old operations.old journal.old) job sheet procedure keys.now }
 {
     let mut reached = session;
-    let mut i: usize = 0;
-    // a step is a run, and where it ends is found on the way: no `for` goes by such steps
-    while i < n {
-        let end = runs::run_end(keys, i, n);
+    let mut rest = keys;
+    while !rest.is_empty() {
+        let (run, later) = rest.split_at(runs::run_end(rest));
         reached = place_run(
-            reached,
-            tiles,
-            operations,
-            journal,
-            job,
-            sheet,
-            procedure,
-            &keys[i..end],
+            reached, tiles, operations, journal, job, sheet, procedure, run,
         );
-        i = end;
+        rest = later;
     }
     reached
 }
@@ -83,20 +73,19 @@ pub fn carry_list(
     sheet: u16,
     procedure: Procedure,
     keys: &[u32],
-    n: usize,
 ) -> Outcome
-    requires { Carries (world session tiles.old operations.old journal.old) job keys.now n }
+    requires { Carries (world session tiles.old operations.old journal.old) job keys.now }
     ensures { reported result tiles.new operations.new journal.new
-        ≡ list_call (world session tiles.old operations.old journal.old) job sheet procedure (take n keys.now) }
+        ≡ list_call (world session tiles.old operations.old journal.old) job sheet procedure keys.now }
 {
-    let reply = judging::judge_list(session, tiles, operations, journal, job, procedure, keys, n);
+    let reply = judging::judge_list(session, tiles, operations, journal, job, procedure, keys);
     if !decisions::accepted(reply) {
         return Outcome { reply, session };
     }
     Outcome {
         reply,
         session: place_all(
-            session, tiles, operations, journal, job, sheet, procedure, keys, n,
+            session, tiles, operations, journal, job, sheet, procedure, keys,
         ),
     }
 }

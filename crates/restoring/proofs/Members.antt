@@ -17,7 +17,7 @@ use Rattle.strict.specs.Tiles.{Above, Ascending, member}
 use Rattle.strict.specs.declared.Procedure.TheVariants.{Del, Ins, Mem}
 use Rattle.strict.specs.declared.Procedure.{Procedure}
 use Rattle.search.specs.Table.{position_of}
-use Rattle.runs.specs.Laws.{past_all, there_at}
+use Rattle.tiles.proofs.Laws.{absent_past, present_there}
 use Rattle.runs.specs.Runs.{apply_all}
 use Rattle.restoring.specs.Notes.{marked_by, restored, unmarked}
 
@@ -90,10 +90,10 @@ module _ (t : List ℕ) (asc : Ascending t) where
     where
       go : (b : Bool) → ltb (position_of k t) (length t) ≡ b → position_of k t < length t
       go true e = ltb-true (position_of k t) (length t) e
-      go false e = never (sym (past_all k t asc (ltb-false (position_of k t) (length t) e) ∙ here))
+      go false e = never (sym (absent_past k t asc refl (ltb-false (position_of k t) (length t) e) ∙ here))
 
   stands : (k : ℕ) → member k t ≡ true → get_or t (position_of k t) 0 ≡ k
-  stands k here = eqb-true (get_or t (position_of k t) 0) k (there_at k t asc (place_inside k here) ∙ here)
+  stands k here = eqb-true (get_or t (position_of k t) 0) k (present_there k t asc refl (place_inside k here) ∙ here)
 
   own_place : (j k : ℕ) → member j t ≡ true → member k t ≡ true → position_of j t ≡ position_of k t → j ≡ k
   own_place j k p q e = sym (stands j p) ∙ ap (λ i. get_or t i 0) e ∙ stands k q

@@ -23,7 +23,7 @@ fewer (m ∷ ms) [] = omega arith
 fewer (true ∷ ms) (x ∷ xs) = let ih = fewer ms xs in omega arith
 fewer (false ∷ ms) (x ∷ xs) = let ih = fewer ms xs in omega arith
 
-module _ {tiles : List ℕ} {count : ℕ} {l : List ℕ} {ms : List Bool} {back : List ℕ} {n : Notes} (h : Foretold tiles count l ms back n) (fits : length l ≤ length tiles)
+module _ {tiles : List ℕ} {count : ℕ} (table : TileTable tiles count) {l : List ℕ} {ms : List Bool} {back : List ℕ} {n : Notes} (h : Foretold (take count tiles) l ms back n) (fits : length l ≤ length tiles)
     {t : List ℕ} {left : ℕ} (swept : (left ≡ length (unmarked ms (take count tiles))) × (t ≡ padded (length tiles) (unmarked ms (take count tiles)))) where
   abbrev stay : List ℕ
   stay = unmarked ms (take count tiles)
@@ -32,7 +32,7 @@ module _ {tiles : List ℕ} {count : ℕ} {l : List ℕ} {ms : List Bool} {back 
   coming = take n.coming back
 
   stay_fit : length stay ≤ length tiles
-  stay_fit = omega (arith, fewer ms (take count tiles), used_length h.table, h.table.fits)
+  stay_fit = omega (arith, fewer ms (take count tiles), used_length table, table.fits)
 
   in_front : take left t ≡ stay
   in_front = rw (swept.0, swept.1) (used_padded (length tiles) stay)
@@ -48,7 +48,7 @@ module _ {tiles : List ℕ} {count : ℕ} {l : List ℕ} {ms : List Bool} {back 
 
   pub may_merge : TileTable t left × Ascending coming × (n.tally.tiles ≡ length (apply_all put coming (take left t))) × (n.tally.tiles ≤ length t)
   may_merge = (
-    rw (swept.0, swept.1) (padded_table (length tiles) stay stay_fit (ascending_unmarked ms (take count tiles) h.table.ascending)),
+    rw (swept.0, swept.1) (padded_table (length tiles) stay stay_fit (ascending_unmarked ms (take count tiles) h.ascending)),
     h.awaited.ascending,
     rw merges_into total,
     rw (same_places, total) fits,

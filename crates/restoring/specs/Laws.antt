@@ -1,6 +1,6 @@
 -- What recoveries do to the tiles
 use Rattle.std.specs.Prelude.{Bool, cond, false, true, List, [], ◌∷◌, map, ◌≢◌, ◌≡◌, refl, ◌-◌, ◌<◌, ◌≤◌, suc, zero, ℕ, eqb, drop, get_or, length, take}
-use Rattle.std.proofs.Common.{◌∙◌, ap, sym, arith, drop_of_length-le, drop-cons, get_or-take, length-take-le, eq-eqb, ne_eqb}
+use Rattle.std.proofs.Common.{◌∙◌, ap, sym, arith, drop_of_length-le, drop-cons, eq-eqb, ne_eqb}
 use Rattle.lists.specs.Lists.{All}
 use Rattle.lists.specs.Truth.{by_cond}
 use Rattle.strict.specs.Book.{counted, recover}
@@ -78,18 +78,12 @@ all_at P [] i h a = absurd (omega arith)
 all_at P (x ∷ xs) zero h a = a.0
 all_at P (x ∷ xs) (suc i) h a = all_at P xs i (omega arith) a.1
 
-module _ {tiles : List ℕ} {c : Tally} {operations : List ℕ} {used : ℕ} (u : Undoable tiles c operations used) (job : ℕ) where
-  abbrev es : List ℕ
-  es = take used operations
-
+module _ {tiles : List ℕ} {c : Tally} {es : List ℕ} (u : Undoable tiles c es) (job : ℕ) where
   abbrev t : List ℕ
   t = take c.tiles tiles
 
-  es_length : length es ≡ used
-  es_length = length-take-le used operations u.inside
-
-  pub none_undone : undone_from used job es t ≡ t
-  none_undone = ap (λ l. recovered_job job l t) (drop_of_length-le es {i = used} (omega (arith, es_length)))
+  pub none_undone : undone_from (length es) job es t ≡ t
+  none_undone = ap (λ l. recovered_job job l t) (drop_of_length-le es {i = length es} (omega arith))
 
   pub undone_ascending : (i : ℕ) → Ascending (undone_from i job es t)
   undone_ascending i = job_ascending job (drop i es) t u.tallied.table.ascending
@@ -102,19 +96,12 @@ module _ {tiles : List ℕ} {c : Tally} {operations : List ℕ} {used : ℕ} (u 
       let room = u.room in
       omega arith
 
-  module _ {i : ℕ} (some : 0 < i) (inside : i ≤ used) where
-    entry_used : get_or operations (i - 1) 0 ≡ get_or es (i - 1) 0
-    entry_used = sym (get_or-take used operations (i - 1) 0 (omega arith))
+  module _ {i : ℕ} (some : 0 < i) (inside : i ≤ length es) where
+    pub entry_valid : is_key (key_in (get_or es (i - 1) 0)) ≡ true
+    entry_valid = all_at (λ e. is_key (key_in e) ≡ true) es (i - 1) (omega arith) u.keys
 
-    pub entry_valid : is_key (key_in (get_or operations (i - 1) 0)) ≡ true
-    entry_valid = rw entry_used (all_at (λ e. is_key (key_in e) ≡ true) es (i - 1) (omega (arith, es_length)) u.keys)
+    pub undone_own : job_in (get_or es (i - 1) 0) ≡ job → undone_from (i - 1) job es t ≡ recovered (get_or es (i - 1) 0) (undone_from i job es t)
+    undone_own own = undone_more i job es t some inside ∙ rw (eq-eqb job (job_in (get_or es (i - 1) 0)) (sym own))
 
-    undone_one : undone_from (i - 1) job es t
-        ≡ cond (eqb job (job_in (get_or operations (i - 1) 0))) (recovered (get_or operations (i - 1) 0) (undone_from i job es t)) (undone_from i job es t)
-    undone_one = rw entry_used (undone_more i job es t some (omega (arith, es_length)))
-
-    pub undone_own : job_in (get_or operations (i - 1) 0) ≡ job → undone_from (i - 1) job es t ≡ recovered (get_or operations (i - 1) 0) (undone_from i job es t)
-    undone_own own = undone_one ∙ rw (eq-eqb job (job_in (get_or operations (i - 1) 0)) (sym own))
-
-    pub undone_other : job_in (get_or operations (i - 1) 0) ≢ job → undone_from (i - 1) job es t ≡ undone_from i job es t
-    undone_other other = undone_one ∙ rw (ne_eqb job (job_in (get_or operations (i - 1) 0)) (λ p. other (sym p)))
+    pub undone_other : job_in (get_or es (i - 1) 0) ≢ job → undone_from (i - 1) job es t ≡ undone_from i job es t
+    undone_other other = undone_more i job es t some inside ∙ rw (ne_eqb job (job_in (get_or es (i - 1) 0)) (λ p. other (sym p)))

@@ -1,7 +1,7 @@
 -- Tiles that are to go, and tiles that are to come back, noted and not yet moved
 use Rattle.std.specs.Prelude.{Bool, cond, false, true, List, [], ◌∷◌, ◌≡◌, ◌<◌, ◌≤◌, ℕ, length, replicate, set, take}
 use Rattle.strict.specs.Operations.{put}
-use Rattle.strict.specs.Tiles.{member}
+use Rattle.strict.specs.Tiles.{Ascending, member}
 use Rattle.strict.specs.declared.Procedure.TheVariants.{Del, Ins, Mem}
 use Rattle.strict.specs.declared.Procedure.{Procedure}
 use Rattle.service.specs.Limits.{most_tiles}
@@ -26,8 +26,8 @@ marked_by Mem at ms = ms
 abbrev pub restored : List Bool → List ℕ → List ℕ → List ℕ
 restored ms back t = apply_all put back (unmarked ms t)
 
-abbrev pub restored_by : List ℕ → ℕ → List Bool → List ℕ → Notes → List ℕ
-restored_by tiles count ms back n = restored ms (take n.coming back) (take count tiles)
+abbrev pub restored_by : List ℕ → List Bool → List ℕ → Notes → List ℕ
+restored_by t ms back n = restored ms (take n.coming back) t
 
 -- no mark yet, and none that comes back, with places enough for so many tiles and so many entries
 pub record Blank (ms : List Bool) (back : List ℕ) (tiles used : ℕ) : Type 0 where
@@ -36,17 +36,17 @@ pub record Blank (ms : List Bool) (back : List ℕ) (tiles used : ℕ) : Type 0 
   pub markable : tiles ≤ length ms
   pub room : used ≤ length back
 
--- by these notes the tiles become l
-pub record Foretold (tiles : List ℕ) (count : ℕ) (l : List ℕ) (ms : List Bool) (back : List ℕ) (n : Notes) : Type 0 where
-  pub table : TileTable tiles count
-  pub markable : count ≤ length ms
+-- by these notes the tiles t become l
+pub record Foretold (t l : List ℕ) (ms : List Bool) (back : List ℕ) (n : Notes) : Type 0 where
+  pub ascending : Ascending t
+  pub markable : length t ≤ length ms
   pub awaited : TileTable back n.coming
-  pub apart : (j : ℕ) → member j (take count tiles) ≡ true → member j (take n.coming back) ≡ false
-  pub become : restored_by tiles count ms back n ≡ l
+  pub apart : (j : ℕ) → member j t ≡ true → member j (take n.coming back) ≡ false
+  pub become : restored_by t ms back n ≡ l
   pub right : n.tally ≡ tally_of l
 
 -- notes that have room for one more
-pub record MayNote (tiles : List ℕ) (count : ℕ) (ms : List Bool) (back : List ℕ) (n : Notes) : Type 0 where
-  pub noted : Foretold tiles count (restored_by tiles count ms back n) ms back n
+pub record MayNote (t : List ℕ) (ms : List Bool) (back : List ℕ) (n : Notes) : Type 0 where
+  pub noted : Foretold t (restored_by t ms back n) ms back n
   pub room : n.coming < length back
-  pub few : length (restored_by tiles count ms back n) ≤ most_tiles
+  pub few : length (restored_by t ms back n) ≤ most_tiles

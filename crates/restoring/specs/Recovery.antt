@@ -35,10 +35,9 @@ pub record Tallied (tiles : List ℕ) (c : Tally) : Type 0 where
   pub right : c ≡ tally_of (take c.tiles tiles)
   pub few : length tiles ≤ most_tiles
 
--- used entries of which any job's can be undone: the keys are valid, and there is room for what comes back
-pub record Undoable (tiles : List ℕ) (c : Tally) (operations : List ℕ) (used : ℕ) : Type 0 where
+-- entries of which any job's can be undone: the keys are valid, and there is room for what comes back
+pub record Undoable (tiles : List ℕ) (c : Tally) (es : List ℕ) : Type 0 where
   pub tallied : Tallied tiles c
-  pub inside : used ≤ length operations
-  pub few : used ≤ most_operations
-  pub keys : All (λ e. is_key (key_in e) ≡ true) (take used operations)
-  pub room : length (take c.tiles tiles) + counted (take c.tiles tiles) (map op_in (take used operations)) ≤ length tiles
+  pub few : length es ≤ most_operations
+  pub keys : All (λ e. is_key (key_in e) ≡ true) es
+  pub room : length (take c.tiles tiles) + counted (take c.tiles tiles) (map op_in es) ≤ length tiles

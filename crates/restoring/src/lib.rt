@@ -60,7 +60,7 @@ fn note_absent(back: &mut [u32], notes: Notes, procedure: Procedure, key: u32) -
         × (result.coming ≡ length (report.apply (report.effect procedure) key (take notes.coming back.old)))
         × (back.new ≡ padded (length back.old) (report.apply (report.effect procedure) key (take notes.coming back.old))) }
 {
-    let awaited = tiles::find(back, notes.coming, key);
+    let awaited = tiles::find(&back[..notes.coming], key);
     let coming = engine::affect(back, notes.coming, procedure, awaited);
     let tally = levels::after(notes.tally, procedure, awaited);
     Notes { tally, coming }
@@ -68,20 +68,19 @@ fn note_absent(back: &mut [u32], notes: Notes, procedure: Procedure, key: u32) -
 
 // Notes a procedure on a tile, which is looked for once among the tiles.
 fn note(
-    tiles: &[u32],
-    count: usize,
+    keys: &[u32],
     marks: &mut [bool],
     back: &mut [u32],
     notes: Notes,
     procedure: Procedure,
     key: u32,
 ) -> Notes
-    requires { MayNote tiles.now count marks.old back.old notes × (is_key key ≡ true) }
-    ensures { Foretold tiles.now count
-        (report.apply (report.effect procedure) key (restored_by tiles.now count marks.old back.old notes)) marks.new back.new result
+    requires { MayNote keys.now marks.old back.old notes × (is_key key ≡ true) }
+    ensures { Foretold keys.now
+        (report.apply (report.effect procedure) key (restored_by keys.now marks.old back.old notes)) marks.new back.new result
         × (result.coming ≤ notes.coming + 1) }
 {
-    let spot = tiles::find(tiles, count, key);
+    let spot = tiles::find(keys, key);
     if spot.there {
         note_present(marks, notes, procedure, spot)
     } else {
@@ -101,29 +100,14 @@ pub fn recovery(kind: usize) -> Option<Procedure>
 }
 
 // Notes one entry's recovery.
-fn note_recovery(
-    tiles: &[u32],
-    count: usize,
-    marks: &mut [bool],
-    back: &mut [u32],
-    notes: Notes,
-    e: u64,
-) -> Notes
-    requires { MayNote tiles.now count marks.old back.old notes × (is_key (key_in e) ≡ true) }
-    ensures { Foretold tiles.now count
-        (recovered e (restored_by tiles.now count marks.old back.old notes)) marks.new back.new result
+fn note_recovery(keys: &[u32], marks: &mut [bool], back: &mut [u32], notes: Notes, e: u64) -> Notes
+    requires { MayNote keys.now marks.old back.old notes × (is_key (key_in e) ≡ true) }
+    ensures { Foretold keys.now
+        (recovered e (restored_by keys.now marks.old back.old notes)) marks.new back.new result
         × (result.coming ≤ notes.coming + 1) }
 {
     match recovery(layout::kind_in(e)) {
-        Some(procedure) => note(
-            tiles,
-            count,
-            marks,
-            back,
-            notes,
-            procedure,
-            layout::key_in(e),
-        ),
+        Some(procedure) => note(keys, marks, back, notes, procedure, layout::key_in(e)),
         None => notes,
     }
 }
@@ -134,19 +118,19 @@ fn note_job(
     tally: Tally,
     marks: &mut [bool],
     back: &mut [u32],
-    operations: &[u64],
-    used: usize,
+    entries: &[u64],
     job: u8,
 ) -> Notes
-    requires { Undoable tiles.now tally operations.now used × Blank marks.old back.old (length tiles.now) used }
-    ensures { Foretold tiles.now tally.tiles
-        (recovered_job job (take used operations.now) (take tally.tiles tiles.now)) marks.new back.new result }
+    requires { Undoable tiles.now tally entries.now × Blank marks.old back.old (length tiles.now) (length entries.now) }
+    ensures { Foretold (take tally.tiles tiles.now)
+        (recovered_job job entries.now (take tally.tiles tiles.now)) marks.new back.new result }
 {
+    let keys = &tiles[..tally.tiles];
     let mut notes = Notes { tally, coming: 0 };
-    for i in (0..used).rev() {
-        let e = operations[i];
+    for i in (0..entries.len()).rev() {
+        let e = entries[i];
         if layout::job_in(e) == job {
-            notes = note_recovery(tiles, tally.tiles, marks, back, notes, e);
+            notes = note_recovery(keys, marks, back, notes, e);
         }
     }
     notes
@@ -179,10 +163,11 @@ fn sweep(tiles: &mut [u32], count: usize, marks: &[bool]) -> usize
 
 // Moves the tiles as noted: the marked ones go, and then those that come back are merged in.
 fn move_noted(tiles: &mut [u32], count: usize, marks: &[bool], back: &[u32], notes: Notes)
-    requires { Foretold tiles.old count (restored_by tiles.old count marks.now back.now notes) marks.now back.now notes
-        × (length (restored_by tiles.old count marks.now back.now notes) ≤ length tiles.old) }
+    requires { TileTable tiles.old count
+        × Foretold (take count tiles.old) (restored_by (take count tiles.old) marks.now back.now notes) marks.now back.now notes
+        × (length (restored_by (take count tiles.old) marks.now back.now notes) ≤ length tiles.old) }
     ensures { tiles.new
-        ≡ padded (length tiles.old) (restored_by tiles.old count marks.now back.now notes) }
+        ≡ padded (length tiles.old) (restored_by (take count tiles.old) marks.now back.now notes) }
 {
     let left = sweep(tiles, count, marks);
     runs::affect_run(
@@ -200,26 +185,25 @@ fn restore_by(
     tally: Tally,
     marks: &mut [bool],
     back: &mut [u32],
-    operations: &[u64],
-    used: usize,
+    entries: &[u64],
     job: u8,
 ) -> Tally
-    requires { Undoable tiles.old tally operations.now used × Blank marks.old back.old (length tiles.old) used }
-    ensures { (result ≡ tally_of (recovered_job job (take used operations.now) (take tally.tiles tiles.old)))
-        × (tiles.new ≡ padded (length tiles.old) (recovered_job job (take used operations.now) (take tally.tiles tiles.old))) }
+    requires { Undoable tiles.old tally entries.now × Blank marks.old back.old (length tiles.old) (length entries.now) }
+    ensures { (result ≡ tally_of (recovered_job job entries.now (take tally.tiles tiles.old)))
+        × (tiles.new ≡ padded (length tiles.old) (recovered_job job entries.now (take tally.tiles tiles.old))) }
 {
-    let notes = note_job(tiles, tally, marks, back, operations, used, job);
+    let notes = note_job(tiles, tally, marks, back, entries, job);
     move_noted(tiles, tally.tiles, marks, back, notes);
     notes.tally
 }
 
 // Runs the recoveries of a job's entries, newest first, all at once. Answers what is counted of the tiles after them.
-pub fn restore(tiles: &mut [u32], tally: Tally, operations: &[u64], used: usize, job: u8) -> Tally
-    requires { Undoable tiles.old tally operations.now used }
-    ensures { (result ≡ tally_of (recovered_job job (take used operations.now) (take tally.tiles tiles.old)))
-        × (tiles.new ≡ padded (length tiles.old) (recovered_job job (take used operations.now) (take tally.tiles tiles.old))) }
+pub fn restore(tiles: &mut [u32], tally: Tally, entries: &[u64], job: u8) -> Tally
+    requires { Undoable tiles.old tally entries.now }
+    ensures { (result ≡ tally_of (recovered_job job entries.now (take tally.tiles tiles.old)))
+        × (tiles.new ≡ padded (length tiles.old) (recovered_job job entries.now (take tally.tiles tiles.old))) }
 {
     let mut marks = [false; MOST_TILES];
     let mut back = [0u32; MOST_OPERATIONS];
-    restore_by(tiles, tally, &mut marks, &mut back, operations, used, job)
+    restore_by(tiles, tally, &mut marks, &mut back, entries, job)
 }

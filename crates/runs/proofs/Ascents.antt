@@ -1,10 +1,11 @@
 -- Ascending lists: their beginnings, their last element, and one more behind it
 use mathlib.Core.List.{List, [], ◌++◌, ◌∷◌}
-use mathlib.Core.Path.{◌∙◌, ◌≡◌, ap, subst, sym}
+use mathlib.Core.Path.{◌≡◌, ap, subst}
 use Prim.Native.Nat.{◌+◌, ◌-◌, ◌<◌, ◌≤◌, suc, zero, ℕ}
 use native.Mathlib.Omega.{arith}
-use lib.ListN.{drop, get_or, length, length-drop, take}
-use lib.Seq.{append_snoc, get_or-drop, take-suc}
+use native.Mathlib.Numerals.{add-one}
+use lib.ListN.{drop, get_or, length, take}
+use lib.Seq.{append_snoc, take-suc}
 use Rattle.lists.specs.Lists.{All}
 use Rattle.strict.proofs.Laws.Members.{above_ascending}
 use Rattle.strict.specs.Tiles.{Above, Ascending}
@@ -55,6 +56,14 @@ pub under_snoc : (x y : ℕ) (l : List ℕ) → Under y l → x < y → Under y 
 under_snoc x y [] u h = (h, tt)
 under_snoc x y (z ∷ l) u h = (u.0, under_snoc x y l u.1 h)
 
+above_front : (n x : ℕ) (l : List ℕ) → Above n (l ++ (x ∷ [])) → Above n l
+above_front n x [] a = tt
+above_front n x (y ∷ l) a = (a.0, above_front y x l a.1)
+
+pub ascending_front : (x : ℕ) (l : List ℕ) → Ascending (l ++ (x ∷ [])) → Ascending l
+ascending_front x [] a = tt
+ascending_front x (y ∷ l) a = above_front y x l a
+
 -- ONE MORE
 above_on : (n x y : ℕ) (l : List ℕ) → x < y → Above n (l ++ (x ∷ [])) → Above n (l ++ (x ∷ y ∷ []))
 above_on n x y [] h a = (a.0, (h, tt))
@@ -65,23 +74,8 @@ ascending_on x y [] h a = (h, tt)
 ascending_on x y (z ∷ l) h a = above_on z x y l h a
 
 -- A RUN
-pub run_one : (ks : List ℕ) (from : ℕ) → Ascending (take (from + 1 - from) (drop from ks))
-run_one ks from = let e : from + 1 - from ≡ 1 = omega arith in rw e (go (drop from ks))
-  where
-    go : (l : List ℕ) → Ascending (take 1 l)
-    go [] = tt
-    go (x ∷ l) = tt
-
-pub run_more : (ks : List ℕ) (from end : ℕ) → from < end → end < length ks → get_or ks (end - 1) 0 < get_or ks end 0
-    → Ascending (take (end - from) (drop from ks)) → Ascending (take (end + 1 - from) (drop from ks))
-run_more ks from end some inside rises asc =
-    let l = drop from ks in
-    let j = end - from in
-    let long : length l ≡ length ks - from = length-drop from ks in
-    let front : take j l ≡ take (j - 1) l ++ (get_or l (j - 1) 0 ∷ []) = take_last l j (omega arith) (omega arith) in
-    let one : end + 1 - from ≡ suc j = omega arith in
-    let all : take (end + 1 - from) l ≡ take (j - 1) l ++ (get_or l (j - 1) 0 ∷ get_or l j 0 ∷ []) =
-    ap (λ n. take n l) one ∙ take-suc l j 0 (omega arith) ∙ ap (λ a. a ++ (get_or l j 0 ∷ [])) front ∙ append_snoc (take (j - 1) l) (get_or l (j - 1) 0) (get_or l j 0 ∷ []) in
-    let last : get_or l (j - 1) 0 ≡ get_or ks (end - 1) 0 = get_or-drop from ks (j - 1) 0 ∙ ap (λ n. get_or ks n 0) (omega arith) in
-    let next : get_or l j 0 ≡ get_or ks end 0 = get_or-drop from ks j 0 ∙ ap (λ n. get_or ks n 0) (omega arith) in
-    subst Ascending (sym all) (ascending_on (get_or l (j - 1) 0) (get_or l j 0) (take (j - 1) l) (omega arith) (subst Ascending front asc))
+pub run_more : (ks : List ℕ) (end : ℕ) → 0 < end → end < length ks → get_or ks (end - 1) 0 < get_or ks end 0 → Ascending (take end ks) → Ascending (take (end + 1) ks)
+run_more ks end some inside rises asc =
+    let last = take_last ks end some (omega arith) in
+    rw (add-one, take-suc ks end 0 inside, last, append_snoc (take (end - 1) ks) (get_or ks (end - 1) 0) (get_or ks end 0 ∷ []))
+    (ascending_on (get_or ks (end - 1) 0) (get_or ks end 0) (take (end - 1) ks) rises (subst Ascending last asc))

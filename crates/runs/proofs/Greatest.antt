@@ -1,8 +1,7 @@
 -- The greatest of some tiles and keys: with the keys put in it is the last, and nothing moves in front of it
 use mathlib.Core.Bool.{Bool, cond, false, true}
 use mathlib.Core.List.{List, [], ◌++◌, ◌∷◌}
-use mathlib.Core.Logic.{◌≢◌}
-use mathlib.Core.Path.{◌∙◌, ◌≡◌, ap, ap₂, refl, subst}
+use mathlib.Core.Path.{◌∙◌, ◌≡◌, ap, refl, subst}
 use Prim.Native.Nat.{◌-◌, ◌<◌, ◌≤◌, ℕ}
 use native.Mathlib.Omega.{arith}
 use lib.Dec.{eqb, ltb}
@@ -12,8 +11,8 @@ use Rattle.lists.specs.Truth.{by_cond, eqb_same}
 use Rattle.strict.specs.Operations.{put}
 use Rattle.strict.specs.Tiles.{Ascending, insert_tile}
 use Rattle.runs.specs.Laws.{apply_more}
-use Rattle.runs.specs.Runs.{Greatest, apply_all}
-use Rattle.runs.proofs.Ascents.{Under, ascending_take, behind, take_last, under_last, under_more, under_snoc}
+use Rattle.runs.specs.Runs.{apply_all}
+use Rattle.runs.proofs.Ascents.{Under, behind, take_last, under_last, under_more, under_snoc}
 
 -- one key: in front of a greater tile, behind all, and the last itself
 insert_front : (k x : ℕ) (t : List ℕ) → k < x → insert_tile k (t ++ (x ∷ [])) ≡ insert_tile k t ++ (x ∷ [])
@@ -65,58 +64,37 @@ module _ (k : ℕ) (ks t : List ℕ) (asc : Ascending (ks ++ (k ∷ []))) where
   pub tile_greatest : (x : ℕ) → k < x → apply_all put (ks ++ (k ∷ [])) (t ++ (x ∷ [])) ≡ apply_all put (ks ++ (k ∷ [])) t ++ (x ∷ [])
   tile_greatest x h = all_front x (ks ++ (k ∷ [])) t (under_snoc k x ks (under_more k x ks h (under_last k ks asc)) h)
 
--- the first `old` of t and the first `new` of ks
-module _ (t ks : List ℕ) (old new : ℕ) (fits : old ≤ length t) (some : 0 < new) (inside : new ≤ length ks) (ordered : Ascending (take old t)) (run : Ascending ks) where
-  abbrev key : ℕ
-  key = get_or ks (new - 1) 0
+-- the keys ks, which end in k, and the tiles t, of which the first `old` are left
+abbrev pub merged : List ℕ → List ℕ → ℕ → List ℕ
+merged ks t old = apply_all put ks (take old t)
 
-  abbrev tile : ℕ
-  tile = get_or t (old - 1) 0
+module _ (ks earlier t : List ℕ) (k old : ℕ) (split : ks ≡ earlier ++ (k ∷ [])) (rises : Ascending ks) (fits : old ≤ length t) (ordered : Ascending (take old t)) where
+  keys_ascend : Ascending (earlier ++ (k ∷ []))
+  keys_ascend = subst Ascending split rises
 
-  keys_split : take new ks ≡ take (new - 1) ks ++ (key ∷ [])
-  keys_split = take_last ks new some inside
+  key_step : Under k (take old t) → merged ks t old ≡ merged earlier t old ++ (k ∷ [])
+  key_step u = rw split (key_greatest k earlier (take old t) keys_ascend u)
 
-  keys_ascend : Ascending (take (new - 1) ks ++ (key ∷ []))
-  keys_ascend = subst Ascending keys_split (ascending_take new ks run)
-
-  key_step : Under key (take old t) → Greatest t ks old new (record { key = key; old = old; new = new - 1 })
-  key_step u =
-      record {
-        old_less = omega arith;
-        new_less = omega arith;
-        fewer = omega arith;
-        last = rw keys_split (key_greatest key (take (new - 1) ks) (take old t) keys_ascend u);
-      }
-
-  pub no_tile : old ≡ 0 → Greatest t ks old new (record { key = key; old = old; new = new - 1 })
+  pub no_tile : old ≡ 0 → merged ks t old ≡ merged earlier t old ++ (k ∷ [])
   no_tile none = key_step (rw none tt)
 
-  module _ (there : old ≢ 0) where
+  module _ (there : 0 < old) where
+    abbrev tile : ℕ
+    tile = get_or t (old - 1) 0
+
     tiles_split : take old t ≡ take (old - 1) t ++ (tile ∷ [])
-    tiles_split = take_last t old (omega arith) fits
+    tiles_split = take_last t old there fits
 
     under_tile : Under tile (take (old - 1) t)
     under_tile = under_last tile (take (old - 1) t) (subst Ascending tiles_split ordered)
 
-    pub key_last : tile < key → Greatest t ks old new (record { key = key; old = old; new = new - 1 })
-    key_last h = key_step (rw tiles_split (under_snoc tile key (take (old - 1) t) (under_more tile key (take (old - 1) t) h under_tile) h))
+    pub key_last : tile < k → merged ks t old ≡ merged earlier t old ++ (k ∷ [])
+    key_last h = key_step (rw tiles_split (under_snoc tile k (take (old - 1) t) (under_more tile k (take (old - 1) t) h under_tile) h))
 
-    pub both_last : tile ≡ key → Greatest t ks old new (record { key = key; old = old - 1; new = new - 1 })
+    pub both_last : k ≡ tile → merged ks t old ≡ merged earlier t (old - 1) ++ (tile ∷ [])
     both_last e =
-        record {
-          old_less = omega arith;
-          new_less = omega arith;
-          fewer = omega arith;
-          last =
-              ap₂ (λ a b. apply_all put a b) keys_split (tiles_split ∙ ap (λ x. take (old - 1) t ++ (x ∷ [])) e)
-              ∙ both_greatest key (take (new - 1) ks) (take (old - 1) t) keys_ascend (subst (λ x. Under x (take (old - 1) t)) e under_tile);
-        }
+        rw (split, e, tiles_split)
+        (both_greatest tile earlier (take (old - 1) t) (rw e at keys_ascend) under_tile)
 
-    pub tile_last : key < tile → Greatest t ks old new (record { key = tile; old = old - 1; new = new })
-    tile_last h =
-        record {
-          old_less = omega arith;
-          new_less = omega arith;
-          fewer = omega arith;
-          last = rw (tiles_split, keys_split) (tile_greatest key (take (new - 1) ks) (take (old - 1) t) keys_ascend tile h);
-        }
+    pub tile_last : k < tile → merged ks t old ≡ merged ks t (old - 1) ++ (tile ∷ [])
+    tile_last h = rw (split, tiles_split) (tile_greatest k earlier (take (old - 1) t) keys_ascend tile h)

@@ -1,19 +1,16 @@
--- The place of a key in a table, known by the tile there and the one before it
-use Rattle.std.specs.Prelude.{◌≡◌, ◌-◌, ◌<◌, ◌≤◌, List, get_or, take, ℕ}
-use Rattle.std.proofs.Common.{arith, get_or-take}
+-- The place of a key in an ascending list, known by the key there and the one before it
+use Rattle.std.specs.Prelude.{◌≡◌, ◌-◌, ◌<◌, ◌≤◌, List, get_or, length, ℕ}
+use Rattle.std.proofs.Common.{arith}
+use Rattle.strict.specs.Tiles.{Ascending}
 use Rattle.search.proofs.Places.{place_at, rising}
-use Rattle.search.specs.Laws.{used_length}
-use Rattle.search.specs.Table.{TileTable, position_of}
+use Rattle.search.specs.Table.{position_of}
 
-pub place_known : {l : List ℕ} {count : ℕ} (k : ℕ) (t : TileTable l count) (at : ℕ)
-    → at ≤ count → (0 < at → get_or l (at - 1) 0 < k) → (at < count → k ≤ get_or l at 0) → at ≡ position_of k (take count l)
-place_known {l} {count} k t at fits before there =
-    let n = used_length t in
-    let used = take count l in
-    place_at k used at (omega arith)
+pub place_known : (k : ℕ) (s : List ℕ) → Ascending s → (at : ℕ)
+    → at ≤ length s → (0 < at → get_or s (at - 1) 0 < k) → (at < length s → k ≤ get_or s at 0) → at ≡ position_of k s
+place_known k s asc at fits before there =
+    place_at k s at fits
     (λ j h.
-    let up = rising used t.ascending j (at - 1) (omega arith) (omega arith) in
-    let last = get_or-take count l (at - 1) 0 (omega arith) in
+    let up = rising s asc j (at - 1) (omega arith) (omega arith) in
     let below = before (omega arith) in
     omega arith)
-    (λ h. rw (get_or-take count l at 0 (omega arith)) (there (omega arith)))
+    there

@@ -7,105 +7,81 @@ ghost use Rattle.strict.specs.Operations as report;
 ghost use Rattle.strict.specs.Tiles.{Ascending};
 ghost use Rattle.search.specs.Table.{TileTable, position_of};
 ghost use Rattle.tiles.specs.Table.{spot_of};
-ghost use Rattle.runs.specs.Runs.{Greatest, Kept, Run, apply_all};
+ghost use Rattle.runs.specs.Runs.{Kept, Run, apply_all};
 
 use strict::Procedure;
 use tiles::Spot;
 
-// The greatest of some tiles and keys, and how many of both are left without it.
-#[derive(Clone, Copy)]
-pub struct Last {
-    pub key: u32,
-    pub old: usize,
-    pub new: usize,
-}
-
-// Where the run of ascending keys that begins at `from` ends, or earlier.
-pub fn run_end(keys: &[u32], from: usize, n: usize) -> usize
-    requires { (from < n) × (n ≤ length keys.now) }
-    ensures { Run keys.now from n result }
+// How many keys at the front ascend, or fewer.
+pub fn run_end(keys: &[u32]) -> usize
+    requires { 0 < length keys.now }
+    ensures { Run keys.now result }
 {
-    for end in from + 1..n {
+    for end in 1..keys.len() {
         if keys[end] <= keys[end - 1] {
             return end;
         }
     }
-    n
+    keys.len()
 }
 
-// A place where `key` may belong: `near`, or the one behind it if the tile at `near` is below the key.
-fn guess(tiles: &[u32], count: usize, near: usize, key: u32) -> usize
-    requires { TileTable tiles.now count }
-{
-    if near < count && tiles[near] < key {
+// A place where `key` may belong: `near`, or the one behind it if the key at `near` is below it.
+fn guess(keys: &[u32], near: usize, key: u32) -> usize {
+    if near < keys.len() && keys[near] < key {
         near + 1
     } else {
         near
     }
 }
 
-// Whether `key` belongs to the place `at`: the tile there is not below it, and the one before is.
-fn belongs(tiles: &[u32], count: usize, at: usize, key: u32) -> bool
-    requires { TileTable tiles.now count }
-    ensures { result ≡ true → at ≡ position_of key (take count tiles.now) }
+// Whether `key` belongs to the place `at`: the key there is not below it, and the one before is.
+fn belongs(keys: &[u32], at: usize, key: u32) -> bool
+    requires { Ascending keys.now }
+    ensures { result ≡ true → at ≡ position_of key keys.now }
 {
-    at <= count && (at == count || key <= tiles[at]) && (at == 0 || tiles[at - 1] < key)
+    at <= keys.len() && (at == keys.len() || key <= keys[at]) && (at == 0 || keys[at - 1] < key)
 }
 
 // Looks for a key, first at the place `near` and the one behind it: the keys of a run stand close together.
-pub fn find_near(tiles: &[u32], count: usize, near: usize, key: u32) -> Spot
-    requires { TileTable tiles.now count }
-    ensures { result ≡ spot_of key (take count tiles.now) }
+pub fn find_near(keys: &[u32], near: usize, key: u32) -> Spot
+    requires { Ascending keys.now }
+    ensures { result ≡ spot_of key keys.now }
 {
-    let at = guess(tiles, count, near, key);
-    if belongs(tiles, count, at, key) {
-        tiles::spot_at(tiles, count, at, key)
+    let at = guess(keys, near, key);
+    if belongs(keys, at, key) {
+        tiles::spot_at(keys, at, key)
     } else {
-        tiles::find(tiles, count, key)
+        tiles::find(keys, key)
     }
 }
 
-// The greatest of the first `old` tiles and the first `new` keys.
-fn last_of(tiles: &[u32], old: usize, keys: &[u32], new: usize) -> Last
-    requires { (old ≤ length tiles.now) × (0 < new) × (new ≤ length keys.now) × Ascending (take old tiles.now) × Ascending keys.now }
-    ensures { Greatest tiles.now keys.now old new result }
-{
-    let key = keys[new - 1];
-    match tiles[..old].last() {
-        Some(&tile) if key < tile => Last {
-            key: tile,
-            old: old - 1,
-            new,
-        },
-        Some(&tile) if key == tile => Last {
-            key,
-            old: old - 1,
-            new: new - 1,
-        },
-        _ => Last {
-            key,
-            old,
-            new: new - 1,
-        },
-    }
-}
-
-// Puts a run of keys in, from the last to the first, where `left` tiles will be there: each tile is moved once.
+// Puts a run of keys in, from the last to the first, where `left` tiles will be there: the greatest of the tiles and keys that are left goes to the last place
+// that is free, so that each tile is moved once.
 fn put_run(tiles: &mut [u32], count: usize, keys: &[u32], left: usize)
     requires { TileTable tiles.old count × Ascending keys.now
         × (left ≡ length (apply_all report.put keys.now (take count tiles.old))) × (left ≤ length tiles.old) }
     ensures { tiles.new ≡ padded (length tiles.old) (apply_all report.put keys.now (take count tiles.old)) }
 {
     let mut old = count;
-    let mut new = keys.len();
+    let mut rest = keys;
     let mut place = left;
-    // The keys end this pass, and not the places: a `for` over the places would go on to the first of the tiles, which stay where they are.
-    while 0 < new {
-        let last = last_of(tiles, old, keys, new);
+    while let Some((&key, earlier)) = rest.split_last() {
         place -= 1;
-        tiles[place] = last.key;
-        old = last.old;
-        new = last.new;
+        match tiles[..old].last() {
+            Some(&tile) if key < tile => {
+                tiles[place] = tile;
+                old -= 1;
+            }
+            Some(&tile) if key == tile => {
+                tiles[place] = tile;
+                old -= 1;
+                rest = earlier;
+            }
+            _ => {
+                tiles[place] = key;
+                rest = earlier;
+            }
+        }
     }
 }
 

@@ -1,13 +1,14 @@
 // Where a key stands in a tile table, or would be put: a binary search.
 #![tactic(auto)]
 
-ghost use Rattle.std.specs.Prelude.{◌≡◌, take};
-ghost use Rattle.search.specs.Table.{TileTable, position_of};
+ghost use Rattle.std.specs.Prelude.{◌≡◌};
+ghost use Rattle.strict.specs.Tiles.{Ascending};
+ghost use Rattle.search.specs.Table.{position_of};
 
-// The first used place whose key is not below `key`, or `count`.
-pub fn position(tiles: &[u32], count: usize, key: u32) -> usize
-    requires { TileTable tiles.now count }
-    ensures { result ≡ position_of key (take count tiles.now) }
+// The place of the first key that is not below `key`, or how many keys there are.
+pub fn position(keys: &[u32], key: u32) -> usize
+    requires { Ascending keys.now }
+    ensures { result ≡ position_of key keys.now }
 {
-    tiles[..count].partition_point(|k| *k < key)
+    keys.partition_point(|k| *k < key)
 }

@@ -163,32 +163,28 @@ fn key_at(zoom: u8, columns: u32, first: u32, north: u32, height: u32, i: u32) -
         + (north + i % height)
 }
 
-// Lists the keys of n tiles by such steps.
-fn list_keys(zoom: u8, columns: u32, first: u32, north: u32, height: u32, n: u32, keys: &mut [u32])
-    requires { Steps zoom columns first north height × (n ≤ most_in_rectangle) × (n ≤ length keys.old) }
-    ensures { (length keys.new ≡ length keys.old)
-        × (take n keys.new ≡ report.sequence (stepped zoom columns first north height) 0 n) }
+// Lists the keys of the tiles by such steps, from tile 0 on.
+fn list_keys(zoom: u8, columns: u32, first: u32, north: u32, height: u32, keys: &mut [u32])
+    requires { Steps zoom columns first north height × (length keys.old ≤ most_in_rectangle) }
+    ensures { keys.new ≡ report.sequence (stepped zoom columns first north height) 0 (length keys.old) }
 {
-    let mut i: u32 = 0;
-    while i < n {
-        keys[i as usize] = key_at(zoom, columns, first, north, height, i);
-        i += 1;
+    for (i, key) in keys.iter_mut().enumerate() {
+        *key = key_at(zoom, columns, first, north, height, i as u32);
     }
 }
 
 // Lists the keys of the tiles of a rectangle that has a shape.
 pub fn list_tiles(r: Rectangle, shape: Shape, keys: &mut [u32])
-    requires { Shapes r (Ok shape) × (shape.n ≤ length keys.old) }
-    ensures { (length keys.new ≡ length keys.old) × (take shape.n keys.new ≡ report.keys (report.listed r)) }
+    requires { Shapes r (Ok shape) × (length keys.old ≡ shape.n) }
+    ensures { keys.new ≡ report.keys (report.listed r) }
 {
-    let corner = shape.corner;
+    let Shape { corner, height, .. } = shape;
     list_keys(
         r.zoom,
         columns_of(r.zoom),
         corner % ZOOM_FACTOR / COLUMN_FACTOR,
         corner % COLUMN_FACTOR,
-        shape.height,
-        shape.n,
+        height,
         keys,
     )
 }

@@ -6,22 +6,21 @@ use Prim.Native.Nat.{◌+◌, ◌-◌, ◌≤◌, suc, zero, ℕ}
 use native.Mathlib.Omega.{arith}
 use lib.Dec.{leb, leb-zero}
 use lib.ListN.{drop, length, length-replicate, length-take, replicate, take}
-use borrow.Author.Tests.{eq-eqb, le-leb, leb-true}
+use borrow.Author.Tests.{eq-eqb, le-leb}
 use Rattle.lists.specs.Lists.{All, all_is, all_true, same_numbers_lem}
 use Rattle.lists.specs.Truth.{both}
 use Rattle.scans.specs.Tests.{all_entries, sorted_keys}
 use Rattle.grid.specs.Levels.{levels_of}
 use Rattle.grid.specs.Tile.{is_key}
 use Rattle.service.specs.Calls.{fresh, start_world}
-use Rattle.service.proofs.Laws.Soundness.{ascending_is, every_is, zeros_is}
+use Rattle.service.proofs.Laws.Soundness.{ascending_is}
 use Rattle.service.specs.Sound.{every, journal_tests, settled_B, sound_B, tabled_B, zeros}
 use Rattle.service.specs.World.{world}
 use Rattle.service.specs.declared.Session.{Session}
 use Rattle.strict.specs.Book.{spoken_by}
 use Rattle.strict.proofs.Laws.Room.{nothing_spoken}
 use Rattle.strict.specs.declared.Rule.{Rule}
-use Rattle.search.specs.Laws.{zeros_table}
-use Rattle.search.specs.Table.{TileTable}
+use Rattle.strict.specs.Tiles.{Ascending}
 use Rattle.soundness.specs.Tests.{count_tests, fresh_tests}
 
 -- THE TABLES
@@ -34,7 +33,7 @@ module _ (s : Session) (t o : List ℕ) where
       ∷ all_entries s.marks (take s.operations o)
       ∷ zeros (drop s.operations o)
       ∷ settled_B s.rule (take s.tiles t) (take s.operations o)
-      ∷ every (fresh_tests (world s t o []))
+      ∷ every (fresh_tests s (take s.tiles t) (take s.operations o) (length t))
       ∷ []
 
   pub tabled_parts : tabled_B (world s t o []) ≡ every parts
@@ -42,11 +41,8 @@ module _ (s : Session) (t o : List ℕ) where
   tabled_parts = simp (and_assoc, and-true)
 
   -- what the first tests say
-  pub tile_table : every (count_tests s.tiles s.operations t o) ≡ true → (sorted_keys (take s.tiles t) && zeros (drop s.tiles t)) ≡ true → TileTable t s.tiles
-  tile_table counts e =
-      let p = both (sorted_keys (take s.tiles t)) _ e in
-      let fits = leb-true _ _ (every_is (count_tests s.tiles s.operations t o) counts).1.1.1.1.0 in
-      zeros_table s.tiles t fits (ascending_is (take s.tiles t) (both (all_true is_key (take s.tiles t)) _ p.0).1) (zeros_is (drop s.tiles t) p.1)
+  pub keys_ascending : (sorted_keys (take s.tiles t) && zeros (drop s.tiles t)) ≡ true → Ascending (take s.tiles t)
+  keys_ascending e = ascending_is (take s.tiles t) (both (all_true is_key (take s.tiles t)) _ (both (sorted_keys (take s.tiles t)) _ e).0).1
 
   pub keys_valid : (sorted_keys (take s.tiles t) && zeros (drop s.tiles t)) ≡ true → All (λ k. is_key k ≡ true) (take s.tiles t)
   keys_valid e = all_is is_key (λ k. is_key k ≡ true) (λ x y. y) (take s.tiles t) (both (all_true is_key (take s.tiles t)) _ (both (sorted_keys (take s.tiles t)) _ e).0).0

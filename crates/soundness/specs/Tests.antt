@@ -1,9 +1,10 @@
 -- The parts of service's test of soundness that look at lengths and counts
-use Rattle.std.specs.Prelude.{Bool, List, [], ◌∷◌, ℕ, eqb, leb, length}
+use Rattle.std.specs.Prelude.{Bool, List, [], ◌∷◌, map, ◌+◌, ℕ, eqb, leb, length}
 use Rattle.lists.specs.Lists.{same_numbers}
-use Rattle.strict.specs.Book.{places_taken, spoken_by}
+use Rattle.strict.specs.Book.{spoken_by}
 use Rattle.grid.specs.Levels.{levels_of}
-use Rattle.service.specs.World.{World, state, used_tiles}
+use Rattle.service.specs.Entry.{op_in}
+use Rattle.service.specs.declared.Session.{Session}
 
 -- the lengths within their limits, and the counts within the lengths
 abbrev pub count_tests : ℕ → ℕ → List ℕ → List ℕ → List Bool
@@ -16,10 +17,10 @@ count_tests count used tiles operations =
     ∷ leb used (length operations)
     ∷ []
 
--- room for what is spoken for, and the counts that are kept
-abbrev pub fresh_tests : World → List Bool
-fresh_tests w =
-    leb (places_taken w.session.rule (state w).book) (length w.tiles)
-    ∷ same_numbers w.session.levels (levels_of (used_tiles w))
-    ∷ eqb w.session.spoken (spoken_by w.session.rule (used_tiles w) (state w).book.table)
+-- room in so many places for what is spoken for, and the counts that are kept
+abbrev pub fresh_tests : Session → List ℕ → List ℕ → ℕ → List Bool
+fresh_tests s keys entries places =
+    leb (length keys + spoken_by s.rule keys (map op_in entries)) places
+    ∷ same_numbers s.levels (levels_of keys)
+    ∷ eqb s.spoken (spoken_by s.rule keys (map op_in entries))
     ∷ []

@@ -10,9 +10,8 @@ use Rattle.chains.proofs.count_absent.Goals.{else-is_last_absent, then-is_last_a
 
 pub loop-i-init : goal.loop-i-init
 loop-i-init c =
-    let entries = take c.args.count c.args.operations.now in
-    let used : c.args.count ≡ length entries = search (rules, arith) in
-    (refl, omega arith, near_start is_delete entries c.args.count used, rw (drop_of_length-le entries {i = length entries} (omega arith)))
+    let entries = c.args.entries.now in
+    (refl, omega arith, near_start is_delete entries, rw (drop_of_length-le entries {i = length entries} (omega arith)))
 
 pub loop-i-preserved-then-kind_in-eq3 : goal.loop-i-preserved-then-kind_in-eq3
 loop-i-preserved-then-kind_in-eq3 c =
@@ -20,14 +19,14 @@ loop-i-preserved-then-kind_in-eq3 c =
     let i = l.i - 1 in
     let s = c.slot_of-s in
     let from = c.from.result in
-    let tiles = take c.args.used c.args.tiles.now in
-    let entries = take c.args.count c.args.operations.now in
+    let keys = c.args.keys.now in
+    let entries = c.args.entries.now in
     let kind = eq-eqb _ 3 (sym c.kind_in.ensures ∙ c.if-kind_in-eq3.true) in
     let inside : s.result < length l.deletes = omega arith in
     let back : i + 1 ≡ l.i = omega arith in
     let near : Reaches is_delete (key_in (get_or entries i 0)) entries (i + 1) from = rw (back, c.from.ensures, s.ensures.0, c.key_in.ensures) (l.invariant.2 _) in
     let later : take (length entries - from) (drop from entries) ≡ drop from entries = grind (arith, common_steps) in
-    let more = counted_more entries i (omega arith) c.args.whose tiles from {absent = l.absent} kind near (rw later at c.is_last_absent.ensures) (rw back l.invariant.3) in (
+    let more = counted_more entries i (omega arith) c.args.whose keys from {absent = l.absent} kind near (rw later at c.is_last_absent.ensures) (rw back l.invariant.3) in (
       search rules,
       elim c.if-is_last_absent.branch [ then-is_last_absent w ↦ omega arith | else-is_last_absent w ↦ omega arith ],
       near_recorded is_delete entries i (omega arith) l.deletes s.result (s.ensures.0 ∙ ap near_slot c.key_in.ensures) inside (rw back l.invariant.2),
@@ -41,12 +40,11 @@ pub loop-i-preserved : goal.loop-i-preserved
 loop-i-preserved c =
     let l = c.loop-i in
     let i = l.i - 1 in
-    let tiles = take c.args.used c.args.tiles.now in
-    let entries = take c.args.count c.args.operations.now in
+    let entries = c.args.entries.now in
     let kind = ne_eqb _ 3 (λ q. c.if-kind_in-eq3.false (c.kind_in.ensures ∙ q)) in
     let back : i + 1 ≡ l.i = omega arith in (
       l.invariant.0,
       omega arith,
       near_passed is_delete entries i (omega arith) l.deletes kind (rw back l.invariant.2),
-      counted_same entries i (omega arith) c.args.whose tiles kind (rw back l.invariant.3),
+      counted_same entries i (omega arith) c.args.whose c.args.keys.now kind (rw back l.invariant.3),
     )

@@ -12,7 +12,7 @@ pub returns-else-not-is_changing : goal.returns-else-not-is_changing
 returns-else-not-is_changing c =
     let l = c.args.entries.now in
     let from = c.args.from in
-    let t = take c.args.used c.args.tiles.now in
+    let t = c.args.keys.now in
     let e = get_or l c.args.at 0 in
     let later : take (length l - from) (drop from l) ≡ drop from l = grind (arith, common_steps) in
     let same = same_from (followed t e) (λ f. not (eqb (key_in e) (key_in f))) (followed_passes t e) l from c.requires.2 (c.args.at + 1) (omega arith) c.requires.3 in

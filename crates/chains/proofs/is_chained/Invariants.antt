@@ -1,4 +1,4 @@
-use Rattle.std.proofs.Common.{◌≡◌, Bool, drop, length, take, true, ℕ}
+use Rattle.std.proofs.Common.{◌≡◌, Bool, drop, length, true, ℕ}
 use Rattle.strict.specs.declared.Rule.TheVariants.{Together}
 use Rattle.service.specs.Sound.{settled_B}
 use Rattle.chains.proofs.Near.{Nearest}
@@ -10,4 +10,4 @@ each e = true
 -- the entries behind are settled, and each slot has the nearest of them
 abbrev pub invariant-loop-i : goal.invariant-loop-i
 invariant-loop-i l =
-    (length l.near ≡ 16384) × Nearest each l.entries l.near l.i × (settled_B Together (take l.session.tiles l.tiles) (drop l.i l.entries) ≡ true)
+    (length l.near ≡ 16384) × Nearest each l.entries l.near l.i × (settled_B Together l.keys (drop l.i l.entries) ≡ true)

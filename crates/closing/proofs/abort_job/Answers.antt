@@ -1,5 +1,5 @@
 -- `closing::abort_job` meets its contract: the recoveries, newest first, and then what a commit does
-use Rattle.std.proofs.Common.{Bool, List, [], true, ◌∷◌, ◌∙◌, ◌≡◌, ap, arith, length, take}
+use Rattle.std.proofs.Common.{Bool, List, [], true, ◌∷◌, ◌∙◌, ◌≡◌, ap, arith, length, length-take-le, take}
 use Rattle.lists.specs.Lists.{All}
 use Rattle.admission.specs.Laws.{entry_table, room_there}
 use Rattle.entries.specs.Table.{without_job}
@@ -16,12 +16,11 @@ use Rattle.closing.specs.Forms.{aborted}
 use Rattle.closing.proofs.abort_job.Goals as goal
 
 -- the recoveries can run
-undoable : (w : World) → Tabled w → Undoable w.tiles (tally_in w.session) w.operations w.session.operations
+undoable : (w : World) → Tabled w → Undoable w.tiles (tally_in w.session) (used_operations w)
 undoable w o =
     record {
       tallied = tallied w o;
-      inside = o.operations_fit;
-      few = let fit = o.operations_fit in let few = o.few_operations in omega arith;
+      few = omega (arith, length-take-le w.session.operations w.operations o.operations_fit, o.operations_fit, o.few_operations);
       keys = valid_keys w.session.marks (used_operations w) o.entries;
       room = room_there w o;
     }

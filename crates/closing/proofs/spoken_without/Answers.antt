@@ -1,6 +1,5 @@
 -- `closing::spoken_without` meets its contract: what the job's entries speak for is a part of all
-use Rattle.std.proofs.Common.{[], ◌≤◌, arith}
-use Rattle.admission.specs.Laws.{tile_table}
+use Rattle.std.proofs.Common.{[], arith, length-take-le}
 use Rattle.service.specs.World.{world}
 use Rattle.closing.specs.Forms.{spoken_left_lem}
 use Rattle.closing.proofs.spoken_without.Goals as goal
@@ -8,8 +7,8 @@ use Rattle.closing.proofs.spoken_without.Goals as goal
 pub count_spoken-requires : goal.count_spoken-requires
 count_spoken-requires c =
     let a = c.args in
-    let few : a.session.operations ≤ 1024 = omega (arith, c.requires.operations_fit, c.requires.few_operations) in
-    (tile_table (world a.session a.tiles.now a.operations.now []) c.requires, c.requires.operations_fit, few)
+    let few = length-take-le a.session.operations a.operations.now c.requires.operations_fit in
+    (c.requires.ascending, omega (arith, few, c.requires.operations_fit, c.requires.few_operations))
 
 pub overflow_sub-result : goal.overflow_sub-result
 overflow_sub-result c =

@@ -1,6 +1,5 @@
 use mathlib.Core.Path.{◌≡◌}
-use lib.ListN.{take}
-use lib.Seq.{slice}
+use lib.ListN.{drop}
 use Rattle.std.specs.Prelude.{None}
 use Rattle.entries.specs.Table.{first_place}
 use Rattle.entries.proofs.Passes.{placed}
@@ -9,4 +8,4 @@ use Rattle.entries.proofs.first.Given as goal
 -- no entry passed passes the test, so the first of the rest is the first of all
 abbrev pub invariant-loop-i : goal.invariant-loop-i
 invariant-loop-i g l =
-    (l.found ≡ None) × (placed l.i (first_place g.passes (slice l.i l.count l.operations)) ≡ first_place g.passes (take l.count l.operations))
+    (l.found ≡ None) × (placed l.i (first_place g.passes (drop l.i l.entries)) ≡ first_place g.passes l.entries)

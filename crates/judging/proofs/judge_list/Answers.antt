@@ -7,16 +7,16 @@ pub lacking-requires : goal.lacking-requires
 lacking-requires c =
     let a = c.args in
     let w = world a.session a.tiles.now a.operations.now a.journal.now in
-    (c.requires.0, need_few w a.job a.procedure a.keys.now a.n c.requires.1 _ (finds _ _ _ _ _ _ _ c.look_all.ensures c.in-Ok.is) c.requires.2, c.requires.2)
+    (c.requires.0, need_few w a.job a.procedure a.list.now _ (finds _ _ _ _ _ _ _ c.look_all.ensures c.in-Ok.is) c.requires.1, c.requires.1)
 
 pub returns-in-Ok : goal.returns-in-Ok
 returns-in-Ok c =
     let a = c.args in
     let w = world a.session a.tiles.now a.operations.now a.journal.now in
-    room_told w a.job a.procedure a.keys.now a.n c.requires.1 _ (finds _ _ _ _ _ _ _ c.look_all.ensures c.in-Ok.is) _ c.lacking.ensures
+    room_told w a.job a.procedure a.list.now _ (finds _ _ _ _ _ _ _ c.look_all.ensures c.in-Ok.is) _ c.lacking.ensures
 
 pub returns-in-Err : goal.returns-in-Err
 returns-in-Err c =
     let a = c.args in
     let w = world a.session a.tiles.now a.operations.now a.journal.now in
-    rw c.from.ensures (held_told w a.job a.procedure a.keys.now a.n c.requires.1 _ (finds _ _ _ _ _ _ _ c.look_all.ensures c.in-Err.is))
+    rw c.from.ensures (held_told w a.job a.procedure a.list.now _ (finds _ _ _ _ _ _ _ c.look_all.ensures c.in-Err.is))

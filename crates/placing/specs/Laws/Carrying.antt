@@ -1,5 +1,5 @@
 -- A list of keys carried out, whole or not at all
-use Rattle.std.specs.Prelude.{Bool, false, true, List, ◌≡◌, refl, ℕ, length, take}
+use Rattle.std.specs.Prelude.{Bool, false, true, List, ◌≡◌, refl, ℕ, length}
 use Rattle.std.proofs.Math.Bool.{cond}
 use Rattle.std.proofs.Common.{◌∙◌, sym, eqb-true, ltb-false}
 use Rattle.std.proofs.Math.Path.{ap, ap₂}
@@ -46,7 +46,7 @@ module _ (w : World) (job sheet : ℕ) (p : Procedure) (ks : List ℕ) (t : Told
           bytes = ltb-false _ _ h.1.1.1.0;
         }
 
--- the list of n keys that the call was given
-pub list_ahead : (w : World) (job sheet : ℕ) (p : Procedure) (l : List ℕ) (n : ℕ) → Carries w job l n → length w.session.marks ≡ 64
-    → (t : Told) → t ≡ decided (list_refusals w job p (take n l)) (bare 0) → eqb t.number 0 ≡ true → Ahead job sheet p w (take n l) w (take n l)
-list_ahead w job sheet p l n c full t same zero = ahead_start w (take n l) full c.valid c.apart (list_fits w job sheet p (take n l) t same zero c.ready)
+-- the list of keys that the call was given
+pub list_ahead : (w : World) (job sheet : ℕ) (p : Procedure) (ks : List ℕ) → Carries w job ks → length w.session.marks ≡ 64
+    → (t : Told) → t ≡ decided (list_refusals w job p ks) (bare 0) → eqb t.number 0 ≡ true → Ahead job sheet p w ks w ks
+list_ahead w job sheet p ks c full t same zero = ahead_start w ks full c.valid c.apart (list_fits w job sheet p ks t same zero c.ready)

@@ -1,8 +1,7 @@
 -- A list that fits, carried out in two parts
-use Rattle.std.specs.Prelude.{true, List, [], ◌++◌, ◌∷◌, ◌≢◌, ◌≡◌, refl, ◌+◌, ◌-◌, ◌≤◌, suc, zero, ℕ, drop, length, take}
+use Rattle.std.specs.Prelude.{true, List, [], ◌++◌, ◌∷◌, ◌≢◌, ◌≡◌, refl, ◌≤◌, ℕ, drop, length, take}
 use Rattle.std.proofs.Math.Option.{none}
-use Rattle.std.proofs.Common.{◌∙◌, ap, ap₂, subst, sym, arith, length-append, take-append-drop, drop-drop, take-take}
-use Rattle.std.proofs.Math.Seq.{slice}
+use Rattle.std.proofs.Common.{◌∙◌, ap, ap₂, subst, sym, arith, length-append, take-append-drop}
 use Rattle.lists.specs.Lists.{All, padded}
 use Rattle.strict.specs.Book.{Book, held_by}
 use Rattle.strict.specs.declared.Procedure.{Procedure}
@@ -69,31 +68,16 @@ module _ {job sheet : ℕ} {p : Procedure} {w₀ : World} {ks₀ : List ℕ} whe
   ahead_along w [] ys a = a
   ahead_along w (x ∷ xs) ys a = ahead_along (carried w (operation job sheet p x)) xs ys (ahead_more x (xs ++ ys) a)
 
--- A RUN: of the first n of l, those from i to e and those behind
-front_drop : (m i n : ℕ) (l : List ℕ) → i + m ≤ n → take m (drop i (take n l)) ≡ take m (drop i l)
-front_drop m zero n l h = take-take m n l (omega arith)
-front_drop m (suc i) zero l h = absurd (omega arith)
-front_drop m (suc i) (suc n) [] h = refl
-front_drop m (suc i) (suc n) (x ∷ l) h = front_drop m i n l (omega arith)
+-- A RUN: the first n of ks, and those behind
+module _ {job sheet : ℕ} {p : Procedure} {w₀ w : World} {ks₀ : List ℕ} (ks : List ℕ) (n : ℕ) (a : Ahead job sheet p w₀ ks₀ w ks) where
+  parted : Ahead job sheet p w₀ ks₀ w (take n ks ++ drop n ks)
+  parted = subst (Ahead job sheet p w₀ ks₀ w) (sym (take-append-drop n ks)) a
 
-run_split : (l : List ℕ) (i e n : ℕ) → i ≤ e → e ≤ n → slice i n l ≡ take (e - i) (drop i l) ++ slice e n l
-run_split l i e n a b =
-    let there : i + (e - i) ≡ e = omega arith in
-    sym (take-append-drop (e - i) (slice i n l))
-    ∙ ap₂ (λ (x y : List ℕ). x ++ y) (front_drop (e - i) i n l (omega arith)) (drop-drop (e - i) i (take n l) ∙ ap (λ k. drop k (take n l)) there)
+  pub run_may : Ahead job sheet p w (take n ks) w (take n ks)
+  run_may = ahead_first w (take n ks) (drop n ks) parted
 
-module _ {job sheet : ℕ} {p : Procedure} {w₀ w : World} {ks₀ : List ℕ} (l : List ℕ) (n i e : ℕ) (a : Ahead job sheet p w₀ ks₀ w (slice i n l)) (some : i ≤ e) (within : e ≤ n) where
-  abbrev run : List ℕ
-  run = take (e - i) (drop i l)
-
-  parted : Ahead job sheet p w₀ ks₀ w (run ++ slice e n l)
-  parted = subst (Ahead job sheet p w₀ ks₀ w) (run_split l i e n some within) a
-
-  pub run_may : Ahead job sheet p w run w run
-  run_may = ahead_first w run (slice e n l) parted
-
-  pub run_more : (v : World) → v ≡ carried_all w job sheet p run → Ahead job sheet p w₀ ks₀ v (slice e n l)
-  run_more v is = subst (λ x. Ahead job sheet p w₀ ks₀ x (slice e n l)) (sym is) (ahead_along w run (slice e n l) parted)
+  pub run_more : (v : World) → v ≡ carried_all w job sheet p (take n ks) → Ahead job sheet p w₀ ks₀ v (drop n ks)
+  run_more v is = subst (λ x. Ahead job sheet p w₀ ks₀ x (drop n ks)) (sym is) (ahead_along w (take n ks) (drop n ks) parted)
 
 -- what was noted of a run, with its tiles moved
 pub run_done : {w : World} {job sheet : ℕ} {p : Procedure} {ks : List ℕ} {s : Session} {o j : List ℕ} (t : List ℕ) → Noted w job sheet p ks s o j

@@ -9,7 +9,7 @@ use Rattle.restoring.proofs.restore_by.Goals as goal
 pub move_noted-requires : goal.move_noted-requires
 move_noted-requires c =
     let noted = c.note_job-notes.ensures in
-    (as_noted noted, rw noted.become (undone_fits c.requires.0 c.args.job 0))
+    (c.requires.0.tallied.table, as_noted noted, rw noted.become (undone_fits c.requires.0 c.args.job 0))
 
 pub returns : goal.returns
 returns c =

@@ -1,5 +1,5 @@
 -- `scans::entries_fit` meets its contract: the chain is the test of all
-use Rattle.std.proofs.Common.{◌∙◌, rules, take}
+use Rattle.std.proofs.Common.{◌∙◌, rules}
 use Rattle.std.proofs.lemmas.Iterator.{YieldsList-from_slice}
 use Rattle.std.proofs.lemmas.Iterator.Search.{all_from_yields_List}
 use borrow.Author.Tests.{tests}
@@ -9,5 +9,5 @@ use Rattle.scans.proofs.entries_fit.Goals as goal
 
 pub returns : goal.returns
 returns c =
-    let used = take c.args.session.operations c.args.operations.now in
-    all_from_yields_List (λ e. every (entry_tests c.args.session.marks e)) _ _ _ c.all.ensures.ran (YieldsList-from_slice used cc) (λ x b q k. search (rules, tests)) ∙ all_listed _ used
+    let entries = c.args.entries.now in
+    all_from_yields_List (λ e. every (entry_tests c.args.marks.now e)) _ _ _ c.all.ensures.ran (YieldsList-from_slice entries cc) (λ x b q k. search (rules, tests)) ∙ all_listed _ entries

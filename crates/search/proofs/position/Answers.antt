@@ -1,5 +1,5 @@
--- `search::position` meets its contract: the used places ascend
-use Rattle.std.proofs.Common.{rules, take}
+-- `search::position` meets its contract: the keys ascend
+use Rattle.std.proofs.Common.{rules}
 use Rattle.std.specs.Prelude.{ltb}
 use Rattle.std.proofs.lemmas.List.Sorted.{IsPartitionPoint-from_clause}
 use Rattle.search.proofs.Places.{ascending_parted, point_place}
@@ -7,6 +7,5 @@ use Rattle.search.proofs.position.Goals as goal
 
 pub returns : goal.returns
 returns c =
-    let used = take c.args.count c.args.tiles.now in
-    let point = IsPartitionPoint-from_clause (λ y. ltb y c.args.key) used c.partition_point.result c.partition_point.ensures.partitioned (ascending_parted c.args.key used c.requires.ascending) (λ a r f k. search rules) in
-    point_place c.args.key used c.partition_point.result c.partition_point.ensures.bound point
+    let point = IsPartitionPoint-from_clause (λ y. ltb y c.args.key) c.args.keys.now c.partition_point.result c.partition_point.ensures.partitioned (ascending_parted c.args.key c.args.keys.now c.requires) (λ a r f k. search rules) in
+    point_place c.args.key c.args.keys.now c.partition_point.result c.partition_point.ensures.bound point

@@ -8,8 +8,8 @@ use Rattle.settling.proofs.is_settled.Goals as goal
 pub returns-then-not-entry_settled : goal.returns-then-not-entry_settled
 returns-then-not-entry_settled c =
     let i = c.loop-i.i - 1 in
-    let tiles = take c.args.session.tiles c.args.tiles.now in
-    let used = take c.args.session.operations c.args.operations.now in
-    let later : take (length used - (i + 1)) (drop (i + 1) used) ≡ drop (i + 1) used = grind (arith, common_steps) in
+    let keys = c.args.keys.now in
+    let entries = c.args.entries.now in
+    let later : take (length entries - (i + 1)) (drop (i + 1) entries) ≡ drop (i + 1) entries = grind (arith, common_steps) in
     let fails = rw later at (sym c.entry_settled.ensures ∙ c.if-not-entry_settled.true) in
-    sym (not_settled Alone tiles used i (omega arith) (settled_back Alone tiles used i (omega arith) fails))
+    sym (not_settled Alone keys entries i (omega arith) (settled_back Alone keys entries i (omega arith) fails))

@@ -1,4 +1,4 @@
-use Rattle.std.proofs.Common.{◌-◌, ◌≡◌, ◌≤◌, length, take}
+use Rattle.std.proofs.Common.{◌≡◌, length, take}
 use Rattle.rectangles.specs.Rectangles.{sequence}
 use Rattle.shapes.specs.Shaping.{stepped}
 use Rattle.shapes.proofs.list_keys.Given as goal
@@ -6,7 +6,4 @@ use Rattle.shapes.proofs.list_keys.Given as goal
 -- the first i keys are listed
 abbrev pub invariant-loop-i : goal.invariant-loop-i
 invariant-loop-i l =
-    (l.i ≤ l.n) × (length l.keys ≡ length l.initial.keys) × (take l.i l.keys ≡ sequence (stepped l.zoom l.columns l.first l.north l.height) 0 l.i)
-
-abbrev pub decreases-loop-i : goal.decreases-loop-i
-decreases-loop-i l = l.n - l.i
+    (length l.keys ≡ length l.fn.keys) × (take l.i l.keys ≡ sequence (stepped l.zoom l.columns l.first l.north l.height) 0 l.i)

@@ -1,5 +1,5 @@
 -- `shapes::list_tiles` meets its contract: by steps from the corner
-use Rattle.std.proofs.Common.{◌∙◌, ap, subst, sym}
+use Rattle.std.proofs.Common.{◌∙◌, ap₂, arith, subst, sym}
 use Rattle.grid.specs.Tile.{column_in, row_in}
 use Rattle.rectangles.specs.Rectangles.{sequence}
 use Rattle.shapes.specs.Laws.Listed.{shape_few, shape_list, shape_steps}
@@ -14,16 +14,13 @@ list_keys-requires c =
     let a = c.args in
     let s = a.shape in (
       subst (λ x. Steps a.r.zoom x (column_in s.corner) (row_in s.corner) s.height) (sym c.columns_of.ensures) (shape_steps a.r s c.requires.0),
-      shape_few a.r s c.requires.0,
-      c.requires.1,
+      omega (arith, shape_few a.r s c.requires.0, c.requires.1),
     )
 
 pub returns : goal.returns
 returns c =
     let a = c.args in
-    let s = a.shape in (
-      c.list_keys.ensures.0,
-      c.list_keys.ensures.1
-          ∙ ap (λ x. sequence (stepped a.r.zoom x (column_in s.corner) (row_in s.corner) s.height) 0 s.n) c.columns_of.ensures
-          ∙ shape_list a.r s c.requires.0,
-    )
+    let s = a.shape in
+    c.list_keys.ensures
+    ∙ ap₂ (λ x n. sequence (stepped a.r.zoom x (column_in s.corner) (row_in s.corner) s.height) 0 n) c.columns_of.ensures c.requires.1
+    ∙ shape_list a.r s c.requires.0

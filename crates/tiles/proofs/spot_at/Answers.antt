@@ -1,15 +1,10 @@
 -- A key that is there stands at its place
-use Rattle.std.proofs.Common.{◌∙◌, ap₂, arith, le-ltb}
-use Rattle.tiles.proofs.Laws.{absent_past, present_there}
+use Rattle.std.proofs.Common.{◌∙◌, ap₂, refl}
+use Rattle.tiles.proofs.Laws.{read_there}
 use Rattle.tiles.specs.declared.Spot.{Spot}
 use Rattle.tiles.proofs.spot_at.Goals as goal
 
-pub returns-then-at-count : goal.returns-then-at-count
-returns-then-at-count c =
-    let at = c.requires.1 in
-    ap₂ {C = Spot} (λ p b. record { key = c.args.key; at = p; there = b }) at (present_there c.args.key c.requires.0 at (omega arith))
-
-pub returns-else-at-count : goal.returns-else-at-count
-returns-else-at-count c =
-    let at = c.requires.1 in
-    ap₂ {C = Spot} (λ p b. record { key = c.args.key; at = p; there = b }) at (le-ltb _ _ (omega arith) ∙ absent_past c.args.key c.requires.0 at (omega arith))
+pub returns : goal.returns
+returns c =
+    let there = c.eq.ensures ∙ read_there c.args.key c.args.keys.now c.requires.0 c.requires.1 _ refl c.get.result c.get.ensures.lookup.0 c.get.ensures.lookup.1 in
+    ap₂ {C = Spot} (λ p b. record { key = c.args.key; at = p; there = b }) c.requires.1 there

@@ -1,11 +1,11 @@
--- `chains::some_deleted` meets its contract: the chain is the test of any
+-- `chains::is_deleted` meets its contract: the chain is the test of any
 use Rattle.std.proofs.Common.{◌∙◌, ◌&&◌, eqb, rules}
 use Rattle.std.proofs.lemmas.Iterator.{YieldsList-from_slice}
 use Rattle.std.proofs.lemmas.Iterator.Search.{any_from_yields_List}
 use borrow.Author.Tests.{tests}
 use Rattle.service.specs.Entry.{key_in}
 use Rattle.chains.proofs.Passes.{deleted_listed, is_delete}
-use Rattle.chains.proofs.some_deleted.Goals as goal
+use Rattle.chains.proofs.is_deleted.Goals as goal
 
 pub returns : goal.returns
 returns c =
