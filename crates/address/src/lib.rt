@@ -2,7 +2,7 @@
 #![tactic(auto)]
 
 ghost use Rattle.std.specs.Prelude.{◌≡◌, true, pos, ◌<◌, ◌^◌, ◌≤◌};
-ghost use Rattle.grid.specs.Tile.{address_call, address_of, around, is_edition, is_key, north_row, pack_key, placed, position_in, turns_of};
+ghost use Rattle.grid.specs.Tile.{address_call, around, is_edition, is_key, north_row, pack_key, placed, position_in, turns_of};
 ghost use Rattle.address.specs.Columns.{columns_by_zoom};
 ghost use Rattle.address.specs.Rows.{has_row};
 

@@ -1,7 +1,7 @@
 // Ascending runs of keys, put into the tile table or taken out of it in one pass over it.
 #![tactic(auto)]
 
-ghost use Rattle.std.specs.Prelude.{false, true, ◌++◌, ◌≡◌, ◌-◌, ◌<◌, ◌≤◌, drop, get_or, length, replicate, take};
+ghost use Rattle.std.specs.Prelude.{true, ◌++◌, ◌≡◌, ◌-◌, ◌<◌, ◌≤◌, drop, length, replicate, take};
 ghost use Rattle.lists.specs.Lists.{padded};
 ghost use Rattle.strict.specs.Operations as report;
 ghost use Rattle.strict.specs.Tiles.{Ascending};

@@ -1,7 +1,7 @@
 // The shape of a rectangle, and the list of its keys. Nothing of a session is looked at here.
 #![tactic(auto)]
 
-ghost use Rattle.std.specs.Prelude.{◌≡◌, ◌-◌, ◌<◌, ◌^◌, ◌≤◌, suc, length, take};
+ghost use Rattle.std.specs.Prelude.{◌≡◌, ◌-◌, ◌<◌, ◌^◌, ◌≤◌, suc, length};
 ghost use Rattle.std.specs.Int.Signed.{mag};
 ghost use Rattle.grid.specs.Tile.{address_of, row_in};
 ghost use Rattle.rectangles.specs.Rectangles as report;
