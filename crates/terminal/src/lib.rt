@@ -1,7 +1,7 @@
 // What the programs share: all of standard input, and text on standard output and standard error.
 #![tactic(auto)]
 
-ghost use Rattle.std.specs.Prelude.{◌-◌, ◌≤◌, length, IfOk};
+ghost use Rattle.std.specs.Prelude.{◌≡◌, ◌-◌, ◌≤◌, length, IfOk, IsErr, is_err};
 ghost use Rattle.terminal.specs.Counts.{IsPrefixLen};
 
 use std::fmt::Display;
@@ -23,7 +23,9 @@ impl Output {
         }
     }
 
-    pub fn has_failed(&self) -> bool {
+    pub fn has_failed(&self) -> bool
+        ensures { result ≡ is_err self.now.written }
+    {
         self.written.is_err()
     }
 
@@ -33,15 +35,19 @@ impl Output {
     }
 
     // Bytes that need not be text.
-    pub fn write_all(&mut self, bytes: &[u8]) {
+    pub fn write_all(&mut self, bytes: &[u8])
+        ensures { IsErr self.old.written → self.new.written ≡ self.old.written }
+    {
         if self.written.is_ok() {
             self.written = self.stream.write_all(bytes);
         }
     }
 
     // What `write!` and `writeln!` call.
-    pub fn write_fmt<D: Display + Drop>(&mut self, text: D) {
-        if self.written.is_ok() {
+    pub fn write_fmt<D: Display + Drop>(&mut self, text: D)
+        ensures { IsErr self.old.written → self.new.written ≡ self.old.written }
+    {
+        if !self.written.is_err() {
             self.written = self.stream.print(text);
         }
     }
@@ -65,6 +71,7 @@ pub fn read_all(source: Stdin, space: &mut [u8]) -> io::Result<usize>
     ensures { IfOk result (λ bytes. IsPrefixLen bytes space.new) }
 {
     let mut used: usize = 0;
+    // A read takes what is there: how far it gets is no count.
     while used < space.len() {
         let bytes = read_some(source, space, used)?;
         if bytes == 0 {
