@@ -50,7 +50,7 @@ impl From<Hindrance> for Reply {
     }
 }
 
-// The kind of an operation, by whether it found its tile.
+// The kind of an operation, by whether it found its tile: the number that its entry holds and the table of commutativity is read by.
 pub fn kind(procedure: Procedure, found: bool) -> usize
     ensures { result ≡ report.kind procedure found }
 {

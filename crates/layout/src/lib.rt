@@ -31,6 +31,8 @@ pub fn sheet_in(e: u64) -> u16
     (e / SHEET_FACTOR) as u16
 }
 
+// A number, of which 1 to 6 are kinds: a lent entry may hold any from 0 to 255, and the report's `kind`, `pack_entry`, the table of commutativity and
+// sanbirogu's `entry_kind` speak of the number.
 pub fn kind_in(e: u64) -> usize
     ensures { result ≡ kind_in e }
 {
