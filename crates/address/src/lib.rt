@@ -6,7 +6,10 @@ ghost use Rattle.grid.specs.Tile.{address_call, around, is_edition, is_key, nort
 ghost use Rattle.address.specs.Columns.{columns_by_zoom};
 ghost use Rattle.address.specs.Rows.{has_row};
 
-use grid::{Address, COLUMN_FACTOR, Located, NORTH_EDITION, Position, SOUTH_EDITION, ZOOM_FACTOR};
+use grid::{
+    Address, COLUMN_FACTOR, Keyed, Located, NORTH_EDITION, Position, SOUTH_EDITION, Unplaced,
+    ZOOM_FACTOR,
+};
 
 // Whether there is such an edition.
 fn is_edition(edition: u8) -> bool
@@ -111,16 +114,16 @@ pub fn locate(a: Address) -> Located
 {
     let level = Level { zoom: a.zoom };
     if !is_edition(a.edition) {
-        return Located::NoEdition;
+        return Err(Unplaced::NoEdition);
     }
     if !level.has_row(a.row) {
-        return Located::Refused;
+        return Err(Unplaced::OutOfRange);
     }
     let row = level.north_row(a.edition, a.row);
-    Located::Key {
+    Ok(Keyed {
         key: level.key(a.column, row),
         turns: level.turns(a.column),
-    }
+    })
 }
 
 // Zoom, column and row of a key.

@@ -1,7 +1,9 @@
 // What the calls answer, as the programs print it: numbers with their names, on one line.
 #![tactic(auto)]
 
-use sanbirogu::{Located, Mended, Operation, Read, Record, Replayed, Reply, Session};
+use sanbirogu::{
+    Keyed, Located, Mended, Operation, Read, Record, Replayed, Reply, Session, Unplaced,
+};
 use terminal::Output;
 
 // Zoom, column and row of a key, with this between them.
@@ -37,9 +39,9 @@ pub fn print_whole(out: &mut Output, reply: Reply) {
 // The address step, after this beginning. Key and turns are 0 where it refuses.
 pub fn print_located(out: &mut Output, beginning: &str, located: Located) {
     match located {
-        Located::Key { key, turns } => writeln!(out, "{beginning}0 key {key} turns {turns}"),
-        Located::Refused => writeln!(out, "{beginning}5 key 0 turns 0"),
-        Located::NoEdition => writeln!(out, "{beginning}14 key 0 turns 0"),
+        Ok(Keyed { key, turns }) => writeln!(out, "{beginning}0 key {key} turns {turns}"),
+        Err(Unplaced::OutOfRange) => writeln!(out, "{beginning}5 key 0 turns 0"),
+        Err(Unplaced::NoEdition) => writeln!(out, "{beginning}14 key 0 turns 0"),
     }
 }
 

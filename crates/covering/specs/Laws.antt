@@ -24,7 +24,8 @@ use Rattle.rectangles.specs.declared.Change.{Change}
 use Rattle.rectangles.specs.declared.Rectangle.{Rectangle}
 use Rattle.shapes.specs.Laws.Listed.{all_valid, shape_few}
 use Rattle.shapes.specs.Shaping.{Shapes, reply_of}
-use Rattle.shapes.specs.declared.Flaw.TheVariants.{Misshapen, NoEdition, OutOfRange}
+use Rattle.grid.specs.declared.Unplaced.TheVariants.{NoEdition, OutOfRange}
+use Rattle.shapes.specs.declared.Flaw.TheVariants.{Corner, Misshapen}
 use Rattle.shapes.specs.declared.Flaw.{Flaw}
 use Rattle.shapes.specs.declared.Shape.{Shape}
 use Rattle.placing.specs.Laws.Carrying.{list_numbered}
@@ -87,10 +88,10 @@ module _ (w : World) (job sheet : ℕ) (change : Change) (r : Rectangle) where
     past_gate = rw (ready.is_sound_there, le-ltb 63 job ready.small, ready.job_is_open)
 
     pub tells_flaw : (flaw : Flaw) → Shapes r (Err flaw) → record { told = told (reply_of flaw); after = w } ≡ rectangle_call w job sheet change r
-    tells_flaw NoEdition e =
+    tells_flaw (Corner NoEdition) e =
         let t : bare 14 ≡ decided (rectangle_refusals w job p r) (covered r) = sym (past_gate ∙ rw e) in
         ap (list_after w job sheet p ks) t ∙ sym call_is
-    tells_flaw OutOfRange e =
+    tells_flaw (Corner OutOfRange) e =
         let t : bare 5 ≡ decided (rectangle_refusals w job p r) (covered r) = sym (past_gate ∙ rw (e.0, e.1)) in
         ap (list_after w job sheet p ks) t ∙ sym call_is
     tells_flaw Misshapen e =

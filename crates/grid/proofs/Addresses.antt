@@ -1,13 +1,14 @@
 -- WHAT KEYS ARE: laws of addresses and their keys
-use Rattle.std.specs.Prelude.{cond, true, ◌↔◌, ◌≢◌, ◌≡◌, refl, ◌-◌, ◌<◌, ◌^◌, ◌≤◌, ℕ, eqb, ◌*ℤ◌, ◌+ℤ◌, pos, ℤ}
+use Rattle.std.specs.Prelude.{Result, Ok, Err, cond, true, ◌↔◌, ◌≢◌, ◌≡◌, refl, ◌-◌, ◌<◌, ◌^◌, ◌≤◌, ℕ, eqb, ◌*ℤ◌, ◌+ℤ◌, pos, ℤ}
 use Rattle.std.proofs.Math.Option.{none, some}
 use Rattle.std.proofs.Common.{◌∙◌, ap, ap₂, sym, arith, pow_pos}
 use Rattle.grid.proofs.Laws.Keys.{around_is, around_lt, column_back, has_key, key_above, key_valid, keyed_at, keyed_edition, no_edition, row_back, turned_back, turned_inside, turns_only, valid_key, zoom_back}
 use Rattle.grid.specs.Limits.{highest_zoom, lowest_zoom, north_edition, south_edition}
 use Rattle.grid.specs.Tile.{Placed, Valid, address_call, address_of, around, column_in, is_edition, is_key, key_at, key_of, north_row, pack_key, placed, placed_at, row_in, turned_row, turns_in, turns_of, unplaced_by, zoom_in}
 use Rattle.grid.specs.declared.Address.{Address}
-use Rattle.grid.specs.declared.Located.TheVariants.{Key, NoEdition, Refused}
-use Rattle.grid.specs.declared.Located.{Located}
+use Rattle.grid.specs.declared.Keyed.{Keyed}
+use Rattle.grid.specs.declared.Unplaced.TheVariants.{NoEdition, OutOfRange}
+use Rattle.grid.specs.declared.Unplaced.{Unplaced}
 
 -- the key's column is the remainder by 2 ^ zoom: from 0 to 2 ^ zoom - 1, and a whole number of turns from the column
 pub column_round : (z : ℕ) (c : ℤ) → (around c (2 ^ z) < 2 ^ z) × ((turns : ℤ) × (c ≡ turns *ℤ pos (2 ^ z) +ℤ pos (around c (2 ^ z))))
@@ -87,15 +88,15 @@ turns_exact a k e turns = (only, meets)
         ∙ ap₂ (λ t x. t *ℤ pos size +ℤ pos x) (sym (is ∙ told)) (sym column_is)
 
 -- what it promises leaves one answer
-abbrev located : Placed → Located
-located p = cond (eqb p.number 0) (Key p.key p.turns) (cond (eqb p.number 5) Refused NoEdition)
+abbrev located : Placed → Result Keyed Unplaced
+located p = cond (eqb p.number 0) (Ok (record { key = p.key; turns = p.turns })) (Err (cond (eqb p.number 5) OutOfRange NoEdition))
 
-located_back : (l : Located) → located (placed l) ≡ l
-located_back (Key k turns) = refl
-located_back Refused = refl
-located_back NoEdition = refl
+located_back : (l : Result Keyed Unplaced) → located (placed l) ≡ l
+located_back (Ok at) = refl
+located_back (Err OutOfRange) = refl
+located_back (Err NoEdition) = refl
 
-pub address_once : (a : Address) (l m : Located) → placed l ≡ address_call a → placed m ≡ address_call a → l ≡ m
+pub address_once : (a : Address) (l m : Result Keyed Unplaced) → placed l ≡ address_call a → placed m ≡ address_call a → l ≡ m
 address_once a l m p q = sym (located_back l) ∙ ap located (p ∙ sym q) ∙ located_back m
 
 -- two addresses have one key exactly when zoom, row and the column's remainder agree

@@ -31,10 +31,19 @@ pub struct Position {
     pub row: u32,
 }
 
-// What the address step answers. The turns are how often the column goes round the world, below 0 westward.
+// A tile's key, and how often its column goes round the world, below 0 westward.
 #[derive(Clone, Copy)]
-pub enum Located {
-    Key { key: u32, turns: i32 },
-    Refused,
+pub struct Keyed {
+    pub key: u32,
+    pub turns: i32,
+}
+
+// Why an address has no key: a zoom or a row is out of its range, or there is no such edition.
+#[derive(Clone, Copy)]
+pub enum Unplaced {
+    OutOfRange,
     NoEdition,
 }
+
+// What the address step answers.
+pub type Located = Result<Keyed, Unplaced>;

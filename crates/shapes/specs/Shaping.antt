@@ -6,9 +6,12 @@ use Rattle.rectangles.specs.Rectangles.{area, first_corner, height, key_for, mis
 use Rattle.rectangles.specs.declared.Rectangle.{Rectangle}
 use Rattle.grid.specs.Tile.{is_edition}
 use Rattle.grid.specs.declared.Address.{Address}
+use Rattle.grid.specs.declared.Unplaced.TheVariants.{NoEdition, OutOfRange}
+use Rattle.grid.specs.declared.Unplaced.{Unplaced}
+use Rattle.service.specs.Told as service
 use Rattle.service.specs.declared.Reply.TheVariants as reply
 use Rattle.service.specs.declared.Reply.{Reply}
-use Rattle.shapes.specs.declared.Flaw.TheVariants.{Misshapen, NoEdition, OutOfRange}
+use Rattle.shapes.specs.declared.Flaw.TheVariants.{Corner, Misshapen}
 use Rattle.shapes.specs.declared.Flaw.{Flaw}
 use Rattle.shapes.specs.declared.Shape.{Shape}
 
@@ -18,28 +21,25 @@ misfit zoom w h = eqb w 0 || (eqb h 0 || (ltb (2 ^ zoom) w || ltb most_in_rectan
 
 -- what a call replies to a flaw
 abbrev pub reply_of : Flaw → Reply
-reply_of NoEdition = reply.NoEdition
-reply_of OutOfRange = reply.OutOfRange
+reply_of (Corner why) = service.reply_of why
 reply_of Misshapen = reply.Misshapen
 
 -- what is found of an address: 14, 5, or its key
-abbrev pub Corners : Address → Result ℕ Flaw → Type 0
+abbrev pub Corners : Address → Result ℕ Unplaced → Type 0
 Corners a (Err NoEdition) = is_edition a.edition ≡ false
 Corners a (Err OutOfRange) = (is_edition a.edition ≡ true) × (unplaced a ≡ true)
-Corners a (Err Misshapen) = ⊥
 Corners a (Ok k) = (is_edition a.edition ≡ true) × (unplaced a ≡ false) × (k ≡ key_for a)
 
 -- what is found of a width and a height
 abbrev pub Measures : ℕ → ℕ → ℕ → ℕ → Result Shape Flaw → Type 0
-Measures zoom corner w h (Err NoEdition) = ⊥
-Measures zoom corner w h (Err OutOfRange) = ⊥
+Measures zoom corner w h (Err (Corner why)) = ⊥
 Measures zoom corner w h (Err Misshapen) = misfit zoom w h ≡ true
 Measures zoom corner w h (Ok s) = (misfit zoom w h ≡ false) × (s.corner ≡ corner) × (s.height ≡ h) × (s.n ≡ w * h)
 
 -- what is found of a rectangle: 14, 5, 13, or the key of its first tile, its height and how many tiles it has
 abbrev pub Shapes : Rectangle → Result Shape Flaw → Type 0
-Shapes r (Err NoEdition) = misnamed r ≡ true
-Shapes r (Err OutOfRange) = (misnamed r ≡ false) × (out_of_range r ≡ true)
+Shapes r (Err (Corner NoEdition)) = misnamed r ≡ true
+Shapes r (Err (Corner OutOfRange)) = (misnamed r ≡ false) × (out_of_range r ≡ true)
 Shapes r (Err Misshapen) = (misnamed r ≡ false) × (out_of_range r ≡ false) × (misshapen r ≡ true)
 Shapes r (Ok s) = Shaped r × (s.corner ≡ key_for (first_corner r)) × (s.height ≡ height r) × (s.n ≡ area r)
 

@@ -6,9 +6,10 @@ ghost use Rattle.std.specs.Int.Signed.{mag};
 ghost use Rattle.grid.specs.Tile.{address_of, row_in};
 ghost use Rattle.rectangles.specs.Rectangles as report;
 ghost use Rattle.rectangles.specs.Rectangles.{most_in_rectangle};
+ghost use Rattle.shapes.specs.declared.Flaw.TheVariants.{Corner};
 ghost use Rattle.shapes.specs.Shaping.{Corners, Measures, Shapes, Steps, reply_of, stepped};
 
-use grid::{Address, COLUMN_FACTOR, Located, ZOOM_FACTOR};
+use grid::{Address, COLUMN_FACTOR, Unplaced, ZOOM_FACTOR};
 use rectangles::{MOST_IN_RECTANGLE, Rectangle};
 use service::Reply;
 
@@ -20,12 +21,19 @@ pub struct Shape {
     pub n: u32,
 }
 
-// What is wrong with a rectangle that has none: 14, 5 and 13.
+// What is wrong with a rectangle that has none: a corner without a key, 14 or 5, and then 13.
 #[derive(Clone, Copy)]
 pub enum Flaw {
-    NoEdition,
-    OutOfRange,
+    Corner(Unplaced),
     Misshapen,
+}
+
+impl From<Unplaced> for Flaw {
+    ghost from_gives = { λ why flaw. flaw ≡ Corner why };
+
+    fn from(why: Unplaced) -> Flaw {
+        Flaw::Corner(why)
+    }
 }
 
 impl From<Flaw> for Reply {
@@ -33,8 +41,7 @@ impl From<Flaw> for Reply {
 
     fn from(flaw: Flaw) -> Reply {
         match flaw {
-            Flaw::NoEdition => Reply::NoEdition,
-            Flaw::OutOfRange => Reply::OutOfRange,
+            Flaw::Corner(why) => Reply::from(why),
             Flaw::Misshapen => Reply::Misshapen,
         }
     }
@@ -83,7 +90,7 @@ fn span(a: i32, b: i32) -> usize
 }
 
 // The key of one corner.
-fn corner_key(edition: u8, zoom: u8, column: i32, row: i32) -> Result<u32, Flaw>
+fn corner_key(edition: u8, zoom: u8, column: i32, row: i32) -> Result<u32, Unplaced>
     ensures { Corners (address_of edition zoom column row) result }
 {
     let address = Address {
@@ -92,11 +99,7 @@ fn corner_key(edition: u8, zoom: u8, column: i32, row: i32) -> Result<u32, Flaw>
         column,
         row,
     };
-    match address::locate(address) {
-        Located::NoEdition => Err(Flaw::NoEdition),
-        Located::Refused => Err(Flaw::OutOfRange),
-        Located::Key { key, turns: _ } => Ok(key),
-    }
+    Ok(address::locate(address)?.key)
 }
 
 // How many rows there are from that of one key to that of another. Keys hold rows counted from the north.

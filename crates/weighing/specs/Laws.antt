@@ -1,11 +1,11 @@
 -- What each test of an operation decides
-use Rattle.std.specs.Prelude.{Bool, false, true, Result, Ok, Err, List, ◌∷◌, ◌≡◌, refl, ◌*◌, ◌+◌, ℕ, eqb, ltb, pos, ℤ, length}
+use Rattle.std.specs.Prelude.{Bool, false, true, Result, Ok, Err, List, ◌∷◌, ◌≡◌, refl, ◌*◌, ◌+◌, ℕ, eqb, ltb, pos, length}
 use Rattle.std.proofs.Common.{◌∙◌, ap, sym, eqb-true}
 use Rattle.std.proofs.lemmas.Bool.{not-false}
 use Rattle.strict.specs.declared.Procedure.{Procedure}
 use Rattle.grid.specs.Tile.{Placed, address_call, placed}
 use Rattle.grid.specs.declared.Address.{Address}
-use Rattle.grid.specs.declared.Located.TheVariants.{Key}
+use Rattle.grid.specs.declared.Keyed.{Keyed}
 use Rattle.service.specs.Admission.{open_marks}
 use Rattle.service.specs.Calls.{end_refusals, keyed_refusals, operation_refusals}
 use Rattle.service.specs.History.{committing}
@@ -24,7 +24,7 @@ use Rattle.admission.specs.Laws.{Means}
 use Rattle.admission.specs.Verdicts.{reply_of}
 use Rattle.admission.specs.declared.Hindrance.TheVariants.{Held, NoOperationRoom, NoTileRoom}
 use Rattle.admission.specs.declared.Hindrance.{Hindrance}
-use Rattle.decisions.specs.Laws.{decided_append, gate_refuses}
+use Rattle.decisions.specs.Laws.{decided_append}
 use Rattle.weighing.specs.Decides.{Decides, Judges}
 
 -- AN OPERATION WITH A KEY
@@ -52,12 +52,7 @@ module _ (w : World) (job : ℕ) (p : Procedure) (a : Address) where
   abbrev rest : List Refusal
   rest = refuse 14 (eqb (address_call a).number 14) ∷ refuse 5 (eqb (address_call a).number 5) ∷ keyed_refusals w job p (address_call a).key
 
-  -- where the gate refuses
-  pub decides_gate : (r : Reply) → told r ≡ decided (end_refusals w job) (done false (pos 0)) → eqb (told r).number 0 ≡ false → Decides w job p a (Err r)
-  decides_gate r h n =
-      (λ t. h ∙ gate_refuses (end_refusals w job) (done false (pos 0)) (decided rest t) refl (ap (λ (x : Told). eqb x.number 0) (sym h) ∙ n) ∙ sym (decided_append (end_refusals w job) rest t), n)
-
-  -- where it does not
+  -- where the gate does not refuse
   gate_passed : (r : Reply) → told r ≡ decided (end_refusals w job) (done false (pos 0)) → eqb (told r).number 0 ≡ true → refused (end_refusals w job) ≡ false
   gate_passed r h z =
       decided_done (end_refusals w job) (done false (pos 0)) (numbered w (committing job)) (ap (λ (x : Told). x.number) (sym h) ∙ eqb-true (told r).number 0 z)
@@ -74,5 +69,5 @@ module _ (w : World) (job : ℕ) (p : Procedure) (a : Address) where
         ap (λ (y : Placed). decided (following y) t) same
         ∙ sym (decided_append (end_refusals w job) rest t ∙ decided_none (end_refusals w job) (decided rest t) (gate_passed gate is zero))
 
-    pub decides_refused : (k : ℕ) (turns : ℤ) → placed (Key k turns) ≡ address_call a → (r : Reply) → Judges w job p k (Err r) → Decides w job p a (Err r)
-    decides_refused k turns h r j = (λ t. j.0 t ∙ after_gate (placed (Key k turns)) h t, j.1)
+    pub decides_refused : (at : Keyed) → placed (Ok at) ≡ address_call a → (r : Reply) → Judges w job p at.key (Err r) → Decides w job p a (Err r)
+    decides_refused at h r j = (λ t. j.0 t ∙ after_gate (placed (Ok at)) h t, j.1)

@@ -5,7 +5,7 @@ ghost use Rattle.service.specs.Sound.{Sound};
 ghost use Rattle.service.specs.World.{world};
 ghost use Rattle.weighing.specs.Decides.{Decides, Judges};
 
-use grid::{Address, Located};
+use grid::{Address, Keyed};
 use service::{OPERATION_SIZE, Reply, SHORT_SIZE, Session};
 use strict::Procedure;
 use tiles::Spot;
@@ -54,12 +54,7 @@ pub fn operation_decision(
     if !decisions::accepted(gate) {
         return Err(gate);
     }
-    match address::locate(address) {
-        Located::NoEdition => Err(Reply::NoEdition),
-        Located::Refused => Err(Reply::OutOfRange),
-        Located::Key { key, turns } => {
-            let spot = judge_keyed(session, tiles, operations, journal, job, procedure, key)?;
-            Ok(Weighed { spot, turns })
-        }
-    }
+    let Keyed { key, turns } = address::locate(address)?;
+    let spot = judge_keyed(session, tiles, operations, journal, job, procedure, key)?;
+    Ok(Weighed { spot, turns })
 }

@@ -1,10 +1,9 @@
 -- `shapes::shape_of` meets its contract: both corners have a key, so what is measured is the rectangle
-use Rattle.std.specs.Prelude.{Ok, Err}
+use Rattle.std.specs.Prelude.{Ok}
 use Rattle.std.proofs.Common.{rules, ◌∙◌, ◌≡◌, ◌-◌, subst, suc}
-use Rattle.std.proofs.lemmas.Result.{err_from_is_err_and}
 use Rattle.grid.specs.Tile.{row_in}
 use Rattle.rectangles.specs.Rectangles.{first_corner, height, last_corner, width}
-use Rattle.shapes.specs.Laws.Shaping.{first_flawed, last_flawed, rows_height, shapes_measured, zoom_small}
+use Rattle.shapes.specs.Laws.Shaping.{rows_height, shapes_measured, zoom_small}
 use Rattle.shapes.specs.Shaping.{Corners, Measures}
 use Rattle.shapes.proofs.shape_of.Goals as goal
 
@@ -13,18 +12,6 @@ measured-requires c =
     let first = first_corner c.args.r in
     let a : Corners first (Ok c.in_ok-corner.corner) = search rules in
     zoom_small first a.1
-
-pub returns-in_err-corner : goal.returns-in_err-corner
-returns-in_err-corner c =
-    let h : Corners (first_corner c.args.r) (Err c.in_err-corner.field-0.0) = search rules in
-    let e = err_from_is_err_and c.from_residual.result c.from_residual.ensures.1 in
-    rw (e.1, e.2) (first_flawed c.args.r _ h)
-
-pub returns-in_err-last : goal.returns-in_err-last
-returns-in_err-last c =
-    let h : Corners (last_corner c.args.r) (Err c.in_err-last.field-0.0) = search rules in
-    let e = err_from_is_err_and c.from_residual-in_err-last.result c.from_residual-in_err-last.ensures.1 in
-    rw (e.1, e.2) (last_flawed c.args.r _ h)
 
 pub returns : goal.returns
 returns c =

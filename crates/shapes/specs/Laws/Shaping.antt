@@ -1,6 +1,5 @@
 -- What each test of the shape decides
-use Rattle.std.specs.Prelude.{Result, Ok, Err, ◌||◌, false, not, true, ◌≡◌, ◌-◌, ◌≤◌, suc, ℕ, pos}
-use Rattle.std.proofs.Math.Bool.{or-true}
+use Rattle.std.specs.Prelude.{Result, Ok, Err, false, not, true, ◌≡◌, ◌-◌, ◌≤◌, suc, ℕ, pos}
 use Rattle.std.proofs.Common.{◌∙◌, ap, ap₂, sym}
 use Rattle.lists.specs.Truth.{both_false}
 use Rattle.grid.proofs.Laws.Keys.{keyed_at, row_back}
@@ -9,9 +8,9 @@ use Rattle.grid.specs.declared.Address.{Address}
 use Rattle.rectangles.proofs.Laws.Tiles.{placed_row}
 use Rattle.rectangles.specs.Rectangles.{first_corner, height, key_for, last_corner, span, unplaced, width}
 use Rattle.rectangles.specs.declared.Rectangle.{Rectangle}
-use Rattle.shapes.specs.Shaping.{Corners, Measures, Shapes}
+use Rattle.shapes.specs.Shaping.{Measures, Shapes}
 use Rattle.shapes.specs.declared.Flaw.{Flaw}
-use Rattle.shapes.specs.declared.Flaw.TheVariants.{Misshapen, NoEdition, OutOfRange}
+use Rattle.shapes.specs.declared.Flaw.TheVariants.{Corner, Misshapen}
 use Rattle.shapes.specs.declared.Shape.{Shape}
 
 pub zoom_small : (a : Address) → unplaced a ≡ false → a.zoom ≤ 14
@@ -28,20 +27,8 @@ module _ (r : Rectangle) where
   pub rows_height : unplaced (first_corner r) ≡ false → unplaced (last_corner r) ≡ false → suc (row_in (key_for (last_corner r))) - row_in (key_for (first_corner r)) ≡ height r
   rows_height a b = sym (ap₂ span (corner_row (first_corner r) a) (corner_row (last_corner r) b))
 
-  -- where a corner has no key
-  pub first_flawed : (flaw : Flaw) → Corners (first_corner r) (Err flaw) → Shapes r (Err flaw)
-  first_flawed NoEdition h = ap not h
-  first_flawed OutOfRange h = (ap not h.0, ap (λ b. b || unplaced (last_corner r)) h.1)
-  first_flawed Misshapen h = absurd h
-
-  pub last_flawed : (flaw : Flaw) → Corners (last_corner r) (Err flaw) → Shapes r (Err flaw)
-  last_flawed NoEdition h = ap not h
-  last_flawed OutOfRange h = (ap not h.0, ap (λ b. unplaced (first_corner r) || b) h.1 ∙ or-true (unplaced (first_corner r)))
-  last_flawed Misshapen h = absurd h
-
   pub shapes_measured : (corner : ℕ) (v : Result Shape Flaw) → is_edition r.edition ≡ true → unplaced (first_corner r) ≡ false → unplaced (last_corner r) ≡ false
       → corner ≡ key_for (first_corner r) → Measures r.zoom corner (width r) (height r) v → Shapes r v
-  shapes_measured corner (Err NoEdition) known a b k m = absurd m
-  shapes_measured corner (Err OutOfRange) known a b k m = absurd m
+  shapes_measured corner (Err (Corner why)) known a b k m = absurd m
   shapes_measured corner (Err Misshapen) known a b k m = (ap not known, both_false a b, m)
   shapes_measured corner (Ok s) known a b k m = (record { of_edition = known; in_range = both_false a b; well_formed = m.0 }, m.1 ∙ k, m.2, m.3)
