@@ -25,7 +25,7 @@ pub record Reaches (recorded : ℕ → Bool) (key : ℕ) (l : List ℕ) (i from 
   pub free : all_true (passed_by recorded key) (slice i from l) ≡ true
 
 abbrev pub Nearest : (ℕ → Bool) → List ℕ → List ℕ → ℕ → Type 0
-Nearest recorded l near i = (key : ℕ) → Reaches recorded key l i (get_or near (near_slot key) 0)
+Nearest recorded l near i = (key : ℕ) → Reaches recorded key l i (length l - get_or near (near_slot key) 0)
 
 pub drop_next : (l : List ℕ) (i : ℕ) → i < length l → drop i l ≡ get_or l i 0 ∷ drop (i + 1) l
 drop_next l i inside = rw (add-one, drop-cons l i 0 inside)
@@ -43,9 +43,9 @@ module _ {A : Type 0} (F : List ℕ → A) (test : ℕ → Bool) (passes : (f : 
   same_from i low free = same_by (from - i) i (omega arith) free
 
 module _ (recorded : ℕ → Bool) (l : List ℕ) where
-  pub near_start : Nearest recorded l (replicate 16384 (length l)) (length l)
+  pub near_start : Nearest recorded l (replicate 16384 0) (length l)
   near_start key =
-      rw (get_or-replicate 16384 (near_slot key) (length l) 0 (omega arith)) (record { low = omega arith; high = omega arith; free = rw (slice_end l (length l) (length l) (omega arith)) })
+      rw (get_or-replicate {A = ℕ} 16384 (near_slot key) 0 0 (omega arith)) (record { low = omega arith; high = omega arith; free = rw (slice_end l (length l - 0) (length l) (omega arith)) })
 
   module _ (i : ℕ) (inside : i < length l) where
     one_before : (key from : ℕ) → passed_by recorded key (get_or l i 0) ≡ true → Reaches recorded key l (i + 1) from → Reaches recorded key l i from
@@ -60,13 +60,13 @@ module _ (recorded : ℕ → Bool) (l : List ℕ) where
 
     -- and one that is
     pub near_recorded : (near : List ℕ) (s : ℕ) → s ≡ near_slot (key_in (get_or l i 0)) → s < length near → Nearest recorded l near (i + 1)
-        → Nearest recorded l (set near s i) i
+        → Nearest recorded l (set near s (length l - i)) i
     near_recorded near s own small h key = go (same? (near_slot key) s)
       where
-        go : Same (near_slot key) s → Reaches recorded key l i (get_or (set near s i) (near_slot key) 0)
+        go : Same (near_slot key) s → Reaches recorded key l i (length l - get_or (set near s (length l - i)) (near_slot key) 0)
         go (same p q) =
-            rw (p, get_or-set_same near s i 0 small)
-            (record { low = omega arith; high = omega arith; free = rw (slice_end l i i (omega arith)) })
+            rw (p, get_or-set_same near s (length l - i) 0 small)
+            (record { low = omega arith; high = omega arith; free = rw (slice_end l (length l - (length l - i)) i (omega arith)) })
         go (other n q) =
             let differs = ne_eqb key (key_in (get_or l i 0)) (λ e. n (ap near_slot e ∙ sym own)) in
-            rw (get_or-set_other near s (near_slot key) i 0 n) (one_before key _ (rw differs (ap not (and-false (recorded (get_or l i 0))))) (h key))
+            rw (get_or-set_other near s (near_slot key) (length l - i) 0 n) (one_before key _ (rw differs (ap not (and-false (recorded (get_or l i 0))))) (h key))

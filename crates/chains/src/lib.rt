@@ -47,22 +47,22 @@ fn is_last_absent(keys: &[u32], e: u64, later: &[u64], whose: Whose) -> bool
 }
 
 // How many absent tiles have an unfinished delete, each counted once, at its last, where that is meant. From the last entry to the first, with the nearest
-// later delete of each slot, or the end: before it none deleted a tile of that slot.
+// later delete of each slot: before it none deleted a tile of that slot. A slot has how many entries there are from that one on, so that 0 stands for none.
 pub fn count_absent(keys: &[u32], entries: &[u64], whose: Whose) -> usize
     requires { Ascending keys.now × (length entries.now ≤ 1024) }
     ensures { (result ≡ counted_of (meant whose) keys.now (map op_in entries.now)) × (result ≤ length entries.now) }
 {
-    let mut deletes = [entries.len() as u16; 16384];
+    let mut deletes = [0u16; 16384];
     let mut absent = 0;
     for i in (0..entries.len()).rev() {
         let e = entries[i];
         if layout::kind_in(e) == 3 {
             let s = slot_of(layout::key_in(e));
-            let later = &entries[usize::from(deletes[s])..];
+            let later = &entries[entries.len() - usize::from(deletes[s])..];
             if is_last_absent(keys, e, later, whose) {
                 absent += 1;
             }
-            deletes[s] = i as u16;
+            deletes[s] = (entries.len() - i) as u16;
         }
     }
     absent
@@ -109,19 +109,19 @@ fn entry_chained(keys: &[u32], entries: &[u64], at: usize, from: usize) -> bool
 }
 
 // Whether the tiles are as the entries left them, by the rule that those of a job fail as one. From the last entry to the first, with the nearest later
-// entry of each slot, or the end: before it none has a tile of that slot. `count_absent` and `settling::is_settled` pass over the entries the same way, but
+// entry of each slot: before it none has a tile of that slot. `count_absent` and `settling::is_settled` pass over the entries the same way, but
 // with another table and another question: one function that is handed these as closures would be no shorter, and its clauses would name them all.
 pub fn is_chained(keys: &[u32], entries: &[u64]) -> bool
     requires { Ascending keys.now × (length entries.now ≤ 1024) }
     ensures { result ≡ settled_B Together keys.now entries.now }
 {
-    let mut near = [entries.len() as u16; 16384];
+    let mut near = [0u16; 16384];
     for i in (0..entries.len()).rev() {
         let s = slot_of(layout::key_in(entries[i]));
-        if !entry_chained(keys, entries, i, usize::from(near[s])) {
+        if !entry_chained(keys, entries, i, entries.len() - usize::from(near[s])) {
             return false;
         }
-        near[s] = i as u16;
+        near[s] = (entries.len() - i) as u16;
     }
     true
 }
