@@ -3,8 +3,8 @@ use Rattle.std.specs.Prelude.{◌&&◌, cond, Result, Ok, Err, List, map, ℕ, e
 use Rattle.std.proofs.Math.Option.{Option, none, some}
 use Rattle.service.specs.Admission.{State}
 use Rattle.service.specs.Entry.{op_in}
-use Rattle.service.specs.declared.Reply.TheVariants as reply
-use Rattle.service.specs.declared.Reply.{Reply}
+use Rattle.service.specs.declared.Reason.TheVariants as reason
+use Rattle.service.specs.declared.Reason.{Reason}
 use Rattle.strict.specs.Book.{Book, held_by, needs_place, places_taken}
 use Rattle.strict.specs.Commutativity.{Signature}
 use Rattle.strict.specs.Operations.{begun}
@@ -42,8 +42,11 @@ verdict_of places slots s job p k =
     (cond (needs_place s.rule s.book.table (begun job p k s.book.tiles) && eqb (places_taken s.rule s.book) places) (Err NoTileRoom)
     (cond (eqb (length s.book.table) slots) (Err NoOperationRoom) (Ok (spot_of k s.book.tiles))))
 
--- what a call replies that is hindered
-abbrev pub reply_of : Hindrance → Reply
-reply_of (Held by) = reply.Held by.job by.sheet
-reply_of NoTileRoom = reply.NoTileRoom
-reply_of NoOperationRoom = reply.NoOperationRoom
+-- what a call replies to whose tile is held, and to what is hindered
+abbrev pub held_reason : Holder → Reason
+held_reason by = reason.Held by.job by.sheet
+
+abbrev pub reason_of : Hindrance → Reason
+reason_of (Held by) = held_reason by
+reason_of NoTileRoom = reason.NoTileRoom
+reason_of NoOperationRoom = reason.NoOperationRoom

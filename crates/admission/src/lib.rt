@@ -8,10 +8,10 @@ ghost use Rattle.strict.specs.Tiles.{Ascending};
 ghost use Rattle.service.specs.Sound.{Tabled};
 ghost use Rattle.service.specs.World.{state, world};
 ghost use Rattle.rules.specs.Rules.{wants_place};
-ghost use Rattle.admission.specs.Verdicts.{book_of, reply_of, unheld_of, verdict_of};
+ghost use Rattle.admission.specs.Verdicts.{book_of, held_reason, reason_of, unheld_of, verdict_of};
 ghost use Rattle.admission.specs.declared.Hindrance.TheVariants.{Held};
 
-use service::{Reply, Session};
+use service::{Reason, Session};
 use strict::{Procedure, Rule};
 use tiles::Spot;
 
@@ -38,14 +38,25 @@ impl From<Holder> for Hindrance {
     }
 }
 
-impl From<Hindrance> for Reply {
-    ghost from_gives = { λ why r. r ≡ reply_of why };
+impl From<Holder> for Reason {
+    ghost from_gives = { λ by r. r ≡ held_reason by };
 
-    fn from(why: Hindrance) -> Reply {
+    fn from(by: Holder) -> Reason {
+        Reason::Held {
+            job: by.job,
+            sheet: by.sheet,
+        }
+    }
+}
+
+impl From<Hindrance> for Reason {
+    ghost from_gives = { λ why r. r ≡ reason_of why };
+
+    fn from(why: Hindrance) -> Reason {
         match why {
-            Hindrance::Held(Holder { job, sheet }) => Reply::Held { job, sheet },
-            Hindrance::NoTileRoom => Reply::NoTileRoom,
-            Hindrance::NoOperationRoom => Reply::NoOperationRoom,
+            Hindrance::Held(by) => Reason::from(by),
+            Hindrance::NoTileRoom => Reason::NoTileRoom,
+            Hindrance::NoOperationRoom => Reason::NoOperationRoom,
         }
     }
 }

@@ -23,7 +23,7 @@ use Rattle.rectangles.specs.Rectangles.{carried_all, covered, keys, list_refusal
 use Rattle.rectangles.specs.declared.Change.{Change}
 use Rattle.rectangles.specs.declared.Rectangle.{Rectangle}
 use Rattle.shapes.specs.Laws.Listed.{all_valid, shape_few}
-use Rattle.shapes.specs.Shaping.{Shapes, reply_of}
+use Rattle.shapes.specs.Shaping.{Shapes, reason_of}
 use Rattle.grid.specs.declared.Unplaced.TheVariants.{NoEdition, OutOfRange}
 use Rattle.shapes.specs.declared.Flaw.TheVariants.{Corner, Misshapen}
 use Rattle.shapes.specs.declared.Flaw.{Flaw}
@@ -87,7 +87,7 @@ module _ (w : World) (job sheet : ℕ) (change : Change) (r : Rectangle) where
     past_gate : decided (rectangle_refusals w job p r) (covered r) ≡ decided later (covered r)
     past_gate = rw (ready.is_sound_there, le-ltb 63 job ready.small, ready.job_is_open)
 
-    pub tells_flaw : (flaw : Flaw) → Shapes r (Err flaw) → record { told = told (reply_of flaw); after = w } ≡ rectangle_call w job sheet change r
+    pub tells_flaw : (flaw : Flaw) → Shapes r (Err flaw) → record { told = told (Err (reason_of flaw)); after = w } ≡ rectangle_call w job sheet change r
     tells_flaw (Corner NoEdition) e =
         let t : bare 14 ≡ decided (rectangle_refusals w job p r) (covered r) = sym (past_gate ∙ rw e) in
         ap (list_after w job sheet p ks) t ∙ sym call_is

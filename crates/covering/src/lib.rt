@@ -11,7 +11,7 @@ ghost use Rattle.covering.specs.Asking.{Asks, turns_added};
 
 use address::Level;
 use rectangles::{Change, Rectangle};
-use service::{Outcome, Reply, Session};
+use service::{Done, Outcome, Reason, Reply, Session};
 use shapes::Shape;
 use strict::Procedure;
 
@@ -54,15 +54,13 @@ fn with_turns(reply: Reply, r: Rectangle) -> Reply
     requires { r.zoom ≤ 14 }
     ensures { told result ≡ turns_added r (told reply) }
 {
-    if !decisions::accepted(reply) {
-        return reply;
-    }
+    reply?;
     let level = Level { zoom: r.zoom };
-    Reply::Done {
+    Ok(Done {
         answer: false,
         turns: level.turns(r.west),
         last: level.turns(r.east),
-    }
+    })
 }
 
 // Judges the shape of a rectangle, and carries it out where it has one.
@@ -92,7 +90,7 @@ fn carry_shaped(
             }
         }
         Err(flaw) => Outcome {
-            reply: Reply::from(flaw),
+            reply: Err(Reason::from(flaw)),
             session,
         },
     }
@@ -113,7 +111,7 @@ pub fn rectangle(
         ≡ rectangle_call (world session tiles.old operations.old journal.old) job sheet change r }
 {
     let gate = decisions::end_reply(session, tiles, operations, journal, job);
-    if !decisions::accepted(gate) {
+    if gate.is_err() {
         return Outcome {
             reply: gate,
             session,

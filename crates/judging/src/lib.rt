@@ -11,8 +11,8 @@ ghost use Rattle.filter.specs.Filter.{elsewhere};
 ghost use Rattle.admission.specs.Verdicts.{book_of};
 ghost use Rattle.judging.specs.Looks.{list_of, look_of, room_for};
 
-use admission::{Hindrance, Holder};
-use service::{OPERATION_SIZE, Reply, SHORT_SIZE, Session};
+use admission::Holder;
+use service::{Done, OPERATION_SIZE, Reason, Reply, SHORT_SIZE, Session};
 use strict::{Procedure, Rule};
 
 // Whether one tile of a list needs a place, or who holds it, on the tables as they stand.
@@ -89,20 +89,20 @@ fn lacking(
     ensures { told result ≡ decided (room_for (world session tiles.now operations.now journal.now) need n) (bare 0) }
 {
     if tiles.len() < session.tiles + session.spoken + need {
-        return Reply::NoTileRoom;
+        return Err(Reason::NoTileRoom);
     }
     if operations.len() < session.operations + n {
-        return Reply::NoOperationRoom;
+        return Err(Reason::NoOperationRoom);
     }
     let left = journal.len() - session.journal;
     if left < OPERATION_SIZE * n + SHORT_SIZE * scans::open_jobs(session) {
-        return Reply::NoJournalRoom;
+        return Err(Reason::NoJournalRoom);
     }
-    Reply::Done {
+    Ok(Done {
         answer: false,
         turns: 0,
         last: 0,
-    }
+    })
 }
 
 // What the operations on a list of tiles reply as a whole: 6, then 7, 8 and 9.
@@ -121,8 +121,6 @@ pub fn judge_list(
 {
     let keys = &tiles[..session.tiles];
     let entries = &operations[..session.operations];
-    match look_all(session.rule, keys, entries, job, procedure, list) {
-        Ok(need) => lacking(session, tiles, operations, journal, need, list.len()),
-        Err(by) => Reply::from(Hindrance::Held(by)),
-    }
+    let need = look_all(session.rule, keys, entries, job, procedure, list)?;
+    lacking(session, tiles, operations, journal, need, list.len())
 }

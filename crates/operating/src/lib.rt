@@ -1,21 +1,21 @@
 // Starting a session, and one operation on it: each takes every input; its promise is one equation with service's specs/Calls.antt.
 #![tactic(auto)]
 
-ghost use Rattle.std.specs.Prelude.{◌≡◌};
+ghost use Rattle.std.specs.Prelude.{Err, ◌≡◌};
 ghost use Rattle.service.specs.Calls.{empty_session, operation_call, start_call};
 ghost use Rattle.service.specs.World.{reported, world};
 
 use grid::Address;
-use service::{Outcome, Reply, Session};
+use service::{Done, Outcome, Reason, Session};
 use strict::{Procedure, Rule};
 use weighing::Weighed;
 
 // A start that is refused: no job open, all counts 0, by the first rule.
-fn refused_start(reply: Reply) -> Outcome
-    ensures { (result.reply ≡ reply) × (result.session ≡ empty_session) }
+fn refused_start(why: Reason) -> Outcome
+    ensures { (result.reply ≡ Err why) × (result.session ≡ empty_session) }
 {
     Outcome {
-        reply,
+        reply: Err(why),
         session: sessions::empty_session(),
     }
 }
@@ -32,21 +32,21 @@ pub fn start(
         ≡ start_call rule tiles.now count operations.old journal.old }
 {
     if !soundness::can_start(tiles, count, operations, journal) {
-        return refused_start(Reply::NotSound);
+        return refused_start(Reason::NotSound);
     }
     let written = journal::rule_size(rule);
     if journal.len() < written {
-        return refused_start(Reply::NoJournalRoom);
+        return refused_start(Reason::NoJournalRoom);
     }
     operations.fill(0);
     journal::write_rule(journal, rule);
     let begun = soundness::fresh_session(rule, &tiles[..count]);
     Outcome {
-        reply: Reply::Done {
+        reply: Ok(Done {
             answer: false,
             turns: 0,
             last: 0,
-        },
+        }),
         session: performing::advanced(begun, written),
     }
 }
@@ -71,6 +71,9 @@ pub fn operation(
         Ok(Weighed { spot, turns }) => performing::carry_out(
             session, tiles, operations, journal, job, sheet, procedure, spot, turns,
         ),
-        Err(reply) => Outcome { reply, session },
+        Err(why) => Outcome {
+            reply: Err(why),
+            session,
+        },
     }
 }

@@ -79,7 +79,7 @@ pub fn carry_list(
         ≡ list_call (world session tiles.old operations.old journal.old) job sheet procedure keys.now }
 {
     let reply = judging::judge_list(session, tiles, operations, journal, job, procedure, keys);
-    if !decisions::accepted(reply) {
+    if reply.is_err() {
         return Outcome { reply, session };
     }
     Outcome {

@@ -1,6 +1,7 @@
 -- UNIQUENESS: each promise leaves one reply, one session and one content of each table
-use Rattle.std.specs.Prelude.{Bool, cond, false, true, List, [], ◌∷◌, ◌≡◌, refl, ◌*◌, ◌+◌, ℕ, eqb, drop, get_or}
+use Rattle.std.specs.Prelude.{Result, Ok, Err, Bool, cond, false, true, List, [], ◌∷◌, ◌≡◌, refl, ◌*◌, ◌+◌, ℕ, eqb, drop, get_or}
 use Rattle.std.proofs.Common.{◌∙◌, ap, sym}
+use Rattle.lists.specs.Truth.{one_if}
 use Rattle.strict.specs.Histories.{Event, abort, commit, open_job, operation}
 use Rattle.strict.specs.declared.Procedure.TheVariants.{Del, Ins, Mem}
 use Rattle.strict.specs.declared.Procedure.{Procedure}
@@ -17,31 +18,35 @@ use Rattle.service.specs.declared.Operation.{Operation}
 use Rattle.service.specs.declared.Outcome.{Outcome}
 use Rattle.service.specs.declared.Record.TheVariants.{Abort, Commit, Open, Sheeted}
 use Rattle.service.specs.declared.Record.{Record}
-use Rattle.service.specs.declared.Reply.TheVariants.{AlreadyOpen, Done, Held, Misshapen, NoEdition, NoJournalRoom, NoOperationRoom, NoSuchJob, NoTileRoom, NotOpen, NotSound, OutOfRange}
-use Rattle.service.specs.declared.Reply.{Reply}
+use Rattle.service.specs.declared.Done.{Done}
+use Rattle.service.specs.declared.Reason.TheVariants.{AlreadyOpen, Held, Misshapen, NoEdition, NoJournalRoom, NoOperationRoom, NoSuchJob, NoTileRoom, NotOpen, NotSound, OutOfRange}
+use Rattle.service.specs.declared.Reason.{Reason}
 use Rattle.service.specs.declared.Told.{Told}
 
 -- the reply that is told so
-abbrev reply_of : Told → Reply
+abbrev reply_of : Told → Result Done Reason
 reply_of t =
-    get_or (Done (eqb t.answer 1) t.turns t.last ∷ NotSound ∷ NoSuchJob ∷ NotOpen ∷ AlreadyOpen ∷ OutOfRange ∷ Held t.holder t.sheet ∷ NoTileRoom ∷ NoOperationRoom ∷ NoJournalRoom ∷ []) t.number (cond (eqb t.number 13) Misshapen NoEdition)
+    get_or (Ok (record { answer = eqb t.answer 1; turns = t.turns; last = t.last }) ∷ Err NotSound ∷ Err NoSuchJob ∷ Err NotOpen ∷ Err AlreadyOpen ∷ Err OutOfRange ∷ Err (Held t.holder t.sheet) ∷ Err NoTileRoom ∷ Err NoOperationRoom ∷ Err NoJournalRoom ∷ []) t.number (Err (cond (eqb t.number 13) Misshapen NoEdition))
 
-reply_back : (r : Reply) → reply_of (told r) ≡ r
-reply_back (Done true turns last) = refl
-reply_back (Done false turns last) = refl
-reply_back NotSound = refl
-reply_back NoSuchJob = refl
-reply_back NotOpen = refl
-reply_back AlreadyOpen = refl
-reply_back OutOfRange = refl
-reply_back (Held job sheet) = refl
-reply_back NoTileRoom = refl
-reply_back NoOperationRoom = refl
-reply_back NoJournalRoom = refl
-reply_back Misshapen = refl
-reply_back NoEdition = refl
+answer_back : (b : Bool) → eqb (one_if b) 1 ≡ b
+answer_back true = refl
+answer_back false = refl
 
-pub told_once : (r s : Reply) → told r ≡ told s → r ≡ s
+reply_back : (r : Result Done Reason) → reply_of (told r) ≡ r
+reply_back (Ok d) = ap (λ b. Ok (record { answer = b; turns = d.turns; last = d.last })) (answer_back d.answer)
+reply_back (Err NotSound) = refl
+reply_back (Err NoSuchJob) = refl
+reply_back (Err NotOpen) = refl
+reply_back (Err AlreadyOpen) = refl
+reply_back (Err OutOfRange) = refl
+reply_back (Err (Held job sheet)) = refl
+reply_back (Err NoTileRoom) = refl
+reply_back (Err NoOperationRoom) = refl
+reply_back (Err NoJournalRoom) = refl
+reply_back (Err Misshapen) = refl
+reply_back (Err NoEdition) = refl
+
+pub told_once : (r s : Result Done Reason) → told r ≡ told s → r ≡ s
 told_once r s e = sym (reply_back r) ∙ ap reply_of e ∙ reply_back s
 
 -- two outcomes, with the tables as they were left, are the same

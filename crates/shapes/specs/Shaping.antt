@@ -9,8 +9,8 @@ use Rattle.grid.specs.declared.Address.{Address}
 use Rattle.grid.specs.declared.Unplaced.TheVariants.{NoEdition, OutOfRange}
 use Rattle.grid.specs.declared.Unplaced.{Unplaced}
 use Rattle.service.specs.Told as service
-use Rattle.service.specs.declared.Reply.TheVariants as reply
-use Rattle.service.specs.declared.Reply.{Reply}
+use Rattle.service.specs.declared.Reason.TheVariants as reason
+use Rattle.service.specs.declared.Reason.{Reason}
 use Rattle.shapes.specs.declared.Flaw.TheVariants.{Corner, Misshapen}
 use Rattle.shapes.specs.declared.Flaw.{Flaw}
 use Rattle.shapes.specs.declared.Shape.{Shape}
@@ -20,9 +20,9 @@ abbrev pub misfit : ℕ → ℕ → ℕ → Bool
 misfit zoom w h = eqb w 0 || (eqb h 0 || (ltb (2 ^ zoom) w || ltb most_in_rectangle (w * h)))
 
 -- what a call replies to a flaw
-abbrev pub reply_of : Flaw → Reply
-reply_of (Corner why) = service.reply_of why
-reply_of Misshapen = reply.Misshapen
+abbrev pub reason_of : Flaw → Reason
+reason_of (Corner why) = service.reason_of why
+reason_of Misshapen = reason.Misshapen
 
 -- what is found of an address: 14, 5, or its key
 abbrev pub Corners : Address → Result ℕ Unplaced → Type 0

@@ -7,11 +7,11 @@ ghost use Rattle.grid.specs.Tile.{address_of, row_in};
 ghost use Rattle.rectangles.specs.Rectangles as report;
 ghost use Rattle.rectangles.specs.Rectangles.{most_in_rectangle};
 ghost use Rattle.shapes.specs.declared.Flaw.TheVariants.{Corner};
-ghost use Rattle.shapes.specs.Shaping.{Corners, Measures, Shapes, Steps, reply_of, stepped};
+ghost use Rattle.shapes.specs.Shaping.{Corners, Measures, Shapes, Steps, reason_of, stepped};
 
 use grid::{Address, COLUMN_FACTOR, Unplaced, ZOOM_FACTOR};
 use rectangles::{MOST_IN_RECTANGLE, Rectangle};
-use service::Reply;
+use service::Reason;
 
 // A rectangle's shape: the key of its first tile, its height and how many tiles it has.
 #[derive(Clone, Copy)]
@@ -36,13 +36,13 @@ impl From<Unplaced> for Flaw {
     }
 }
 
-impl From<Flaw> for Reply {
-    ghost from_gives = { λ flaw r. r ≡ reply_of flaw };
+impl From<Flaw> for Reason {
+    ghost from_gives = { λ flaw r. r ≡ reason_of flaw };
 
-    fn from(flaw: Flaw) -> Reply {
+    fn from(flaw: Flaw) -> Reason {
         match flaw {
-            Flaw::Corner(why) => Reply::from(why),
-            Flaw::Misshapen => Reply::Misshapen,
+            Flaw::Corner(why) => Reason::from(why),
+            Flaw::Misshapen => Reason::Misshapen,
         }
     }
 }

@@ -6,7 +6,7 @@ ghost use Rattle.service.specs.World.{world};
 ghost use Rattle.weighing.specs.Decides.{Decides, Judges};
 
 use grid::{Address, Keyed};
-use service::{OPERATION_SIZE, Reply, SHORT_SIZE, Session};
+use service::{OPERATION_SIZE, Reason, SHORT_SIZE, Session};
 use strict::Procedure;
 use tiles::Spot;
 
@@ -26,14 +26,14 @@ fn judge_keyed(
     job: u8,
     procedure: Procedure,
     key: u32,
-) -> Result<Spot, Reply>
+) -> Result<Spot, Reason>
     requires { Sound (world session tiles.now operations.now journal.now) }
     ensures { Judges (world session tiles.now operations.now journal.now) job procedure key result }
 {
     let spot = admission::admit(session, tiles, operations, job, procedure, key)?;
     let left = journal.len() - session.journal;
     if left < OPERATION_SIZE + SHORT_SIZE * scans::open_jobs(session) {
-        return Err(Reply::NoJournalRoom);
+        return Err(Reason::NoJournalRoom);
     }
     Ok(spot)
 }
@@ -47,13 +47,10 @@ pub fn operation_decision(
     job: u8,
     procedure: Procedure,
     address: Address,
-) -> Result<Weighed, Reply>
+) -> Result<Weighed, Reason>
     ensures { Decides (world session tiles.now operations.now journal.now) job procedure address result }
 {
-    let gate = decisions::end_reply(session, tiles, operations, journal, job);
-    if !decisions::accepted(gate) {
-        return Err(gate);
-    }
+    decisions::end_reply(session, tiles, operations, journal, job)?;
     let Keyed { key, turns } = address::locate(address)?;
     let spot = judge_keyed(session, tiles, operations, journal, job, procedure, key)?;
     Ok(Weighed { spot, turns })

@@ -1,5 +1,4 @@
 -- `covering::with_turns` meets its contract: the turns are those of west and of east, as the casts read them back
-use mathlib.Core.Bool.{cond}
 use mathlib.Core.Path.{◌∙◌, ◌≡◌, ap, ap₂, sym}
 use Prim.Native.Nat.{◌<◌, ℕ}
 use lib.IntN.{ℤ}
@@ -7,10 +6,11 @@ use lib.Signed.{mag}
 use mir.Syntax.{w32}
 use mir.Val.{of_z, to_z}
 use Rattle.address.proofs.Signed.{field_read, turns_read}
-use Rattle.rectangles.specs.Rectangles.{covered}
 use Rattle.grid.specs.Tile.{turns_of}
 use Rattle.service.specs.Told.{told}
 use Rattle.service.specs.declared.Told.{Told}
+use Rattle.covering.specs.Asking.{turns_added}
+use Rattle.std.proofs.Common.{rules}
 use Rattle.covering.proofs.with_turns.Goals as goal
 
 -- the turns of a column that is a field
@@ -19,14 +19,9 @@ turns_back column found n bound is =
     let same : found ≡ turns_of column n = is ∙ ap (λ c. turns_of c n) (field_read column bound) in
     ap (λ t. to_z w32 (of_z w32 t)) same ∙ turns_read column n (record { sfits = bound })
 
-pub returns-then-not-accepted : goal.returns-then-not-accepted
-returns-then-not-accepted c =
-    sym (ap (λ b. cond b (covered c.args.r) (told c.args.reply)) (sym c.accepted.ensures ∙ c.if-not-accepted.true))
-
 pub returns : goal.returns
 returns c =
     let r = c.args.r in
-    let bounds = c.struct_told-1.given in
     ap₂ {C = Told} (λ x y. record { number = 0; answer = 0; holder = 0; sheet = 0; turns = x; last = y })
-    (turns_back r.west _ _ bounds.1.1.0.1 c.turns.ensures) (turns_back r.east _ _ bounds.1.1.1.0.1 c.turns-2.ensures)
-    ∙ sym (ap (λ b. cond b (covered r) (told c.args.reply)) (sym c.accepted.ensures ∙ c.if-not-accepted.false))
+    (turns_back r.west _ _ (search rules) c.turns.ensures) (turns_back r.east _ _ (search rules) c.turns-2.ensures)
+    ∙ ap (λ x. turns_added r (told x)) (sym c.in_ok-reply.was)

@@ -1,12 +1,15 @@
 -- The number that is told, exactly: the first that applies. The numbers of a list differ; they need not rise
-use Rattle.std.specs.Prelude.{Bool, ◌||◌, cond, false, true, List, [], ◌++◌, ◌∷◌, map, ◌↔◌, ◌≢◌, ◌≡◌, refl, ℕ, eqb}
+use Rattle.std.specs.Prelude.{Result, Ok, Err, is_ok, Bool, ◌||◌, cond, false, true, List, [], ◌++◌, ◌∷◌, map, ◌↔◌, ◌≢◌, ◌≡◌, refl, ℕ, eqb}
 use Rattle.std.proofs.Math.Option.{Option, none, some}
 use Rattle.std.proofs.Common.{◌∙◌, ap, sym, arith}
 use Rattle.lists.specs.Lists.{All}
 use Rattle.lists.specs.Truth.{both_false, never, or_left, or_right}
 use Rattle.strict.specs.Commutativity.{Signature}
 use Rattle.strict.specs.Tiles.{member}
-use Rattle.service.specs.Told.{Refusal, decided, refuse_held, refused, told_held}
+use Rattle.service.specs.Told.{Refusal, decided, refuse_held, refused, told, told_held}
+use Rattle.service.specs.declared.Done.{Done}
+use Rattle.service.specs.declared.Reason.TheVariants.{AlreadyOpen, Held, Misshapen, NoEdition, NoJournalRoom, NoOperationRoom, NoSuchJob, NoTileRoom, NotOpen, NotSound, OutOfRange}
+use Rattle.service.specs.declared.Reason.{Reason}
 use Rattle.service.specs.declared.Told.{Told}
 
 -- refusals that do not apply
@@ -20,6 +23,21 @@ unrefused (r ∷ rs) e = (or_left r.applies (refused rs) e, unrefused rs (or_rig
 pub none_applies : (rs : List Refusal) → Passed rs → refused rs ≡ false
 none_applies [] h = refl
 none_applies (r ∷ rs) h = both_false h.0 (none_applies rs h.1)
+
+-- A REPLY is done just where it is told by 0
+pub done_zero : (r : Result Done Reason) → is_ok r ≡ eqb (told r).number 0
+done_zero (Ok d) = refl
+done_zero (Err NotSound) = refl
+done_zero (Err NoSuchJob) = refl
+done_zero (Err NotOpen) = refl
+done_zero (Err AlreadyOpen) = refl
+done_zero (Err OutOfRange) = refl
+done_zero (Err (Held job sheet)) = refl
+done_zero (Err NoTileRoom) = refl
+done_zero (Err NoOperationRoom) = refl
+done_zero (Err NoJournalRoom) = refl
+done_zero (Err Misshapen) = refl
+done_zero (Err NoEdition) = refl
 
 -- THE HOLDER
 pub not_held : (o : Option Signature) → (refuse_held o).applies ≡ false → o ≡ none
