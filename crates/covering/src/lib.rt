@@ -42,10 +42,10 @@ fn carry_rectangle(
         ≡ list_call (world session tiles.old operations.old journal.old) job sheet procedure (keys_of (listed r)) }
 {
     let mut keys = [0u32; 256];
-    let keys = &mut keys[..shape.n as usize];
-    shapes::list_tiles(r, shape, keys);
+    shapes::list_tiles(r, shape, &mut keys);
+    let list = &keys[..shape.n as usize];
     placing::carry_list(
-        session, tiles, operations, journal, job, sheet, procedure, keys,
+        session, tiles, operations, journal, job, sheet, procedure, list,
     )
 }
 

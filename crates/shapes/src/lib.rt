@@ -1,7 +1,7 @@
 // The shape of a rectangle, and the list of its keys. Nothing of a session is looked at here.
 #![tactic(auto)]
 
-ghost use Rattle.std.specs.Prelude.{◌≡◌, ◌-◌, ◌<◌, ◌^◌, ◌≤◌, suc, length};
+ghost use Rattle.std.specs.Prelude.{◌≡◌, ◌-◌, ◌<◌, ◌^◌, ◌≤◌, suc, length, take};
 ghost use Rattle.std.specs.Int.Signed.{mag};
 ghost use Rattle.grid.specs.Tile.{address_of, row_in};
 ghost use Rattle.rectangles.specs.Rectangles as report;
@@ -178,16 +178,16 @@ fn list_keys(zoom: u8, columns: u32, first: u32, north: u32, height: u32, keys: 
 
 // Lists the keys of the tiles of a rectangle that has a shape.
 pub fn list_tiles(r: Rectangle, shape: Shape, keys: &mut [u32])
-    requires { Shapes r (Ok shape) × (length keys.old ≡ shape.n) }
-    ensures { keys.new ≡ report.keys (report.listed r) }
+    requires { Shapes r (Ok shape) × (shape.n ≤ length keys.old) }
+    ensures { take shape.n keys.new ≡ report.keys (report.listed r) }
 {
-    let Shape { corner, height, .. } = shape;
+    let Shape { corner, height, n } = shape;
     list_keys(
         r.zoom,
         columns_of(r.zoom),
         corner % ZOOM_FACTOR / COLUMN_FACTOR,
         corner % COLUMN_FACTOR,
         height,
-        keys,
+        &mut keys[..n as usize],
     )
 }
