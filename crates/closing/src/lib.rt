@@ -56,7 +56,7 @@ fn recover(tiles: &mut [u32], tally: Tally, e: u64) -> Tally
     }
 }
 
-// Runs the recoveries of a job's entries, newest first, one after another. Answers what is counted of the tiles after them.
+// Runs the recoveries of a job's entries, newest first, one after another: the loop is `restoring::note_job`'s, but it moves tiles and a tally, and no marks. Answers what is counted of the tiles after them.
 fn undo_each(tiles: &mut [u32], tally: Tally, entries: &[u64], job: u8) -> Tally
     requires { Undoable tiles.old tally entries.now }
     ensures { (result ≡ tally_of (recovered_job job entries.now (take tally.tiles tiles.old)))

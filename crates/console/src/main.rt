@@ -38,6 +38,7 @@ fn answer_lines(
     let mut reached = desk;
     let mut at: usize = 0;
     let mut more = left;
+    // where a line ends is found on the way
     while 0 < more {
         let Some(size) = text[at..].iter().position(|&byte| byte == b'\n') else {
             break;
@@ -94,6 +95,7 @@ fn answer_input(
         at: 0,
         left: 4294967296,
     };
+    // a read takes what is there
     while 0 < reached.left {
         let Ok(bytes) = terminal::read_some(source, space, reached.at) else {
             writeln!(out, "unreadable input");

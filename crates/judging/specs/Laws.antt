@@ -1,15 +1,14 @@
 -- From turn to turn of the pass that decides, and what a list is told
-use Rattle.std.specs.Prelude.{Bool, Result, Ok, Err, false, not, true, ◌≡◌, ◌+◌, ◌<◌, ◌≤◌, ℕ, drop, eqb, get_or, length}
+use Rattle.std.specs.Prelude.{Bool, Result, Ok, Err, false, not, true, ◌≡◌, ◌+◌, ◌<◌, ◌≤◌, ℕ, drop, eqb, get_or, length, ◌*◌}
 use mathlib.Core.List.{List, [], ◌∷◌, map}
 use Rattle.std.proofs.Math.Option.{Option, none, some}
-use Rattle.std.proofs.Common.{◌∙◌, sym}
+use Rattle.std.proofs.Common.{◌∙◌, sym, add-one, drop-cons, arith, le-ltb, lt-ltb}
 use Rattle.std.proofs.Math.Path.{ap, refl, subst}
 use native.Mathlib.Omega.{arith}
 use Rattle.std.proofs.lemmas.Bool.{eqb-false, not-true}
-use Rattle.std.proofs.Common.{add-one, drop-cons}
 use Rattle.std.proofs.lemmas.List.{drop_all}
 use Rattle.lists.specs.Truth.{both, one_if}
-use Rattle.strict.specs.Book.{Book, held_by, needs_place}
+use Rattle.strict.specs.Book.{Book, held_by, needs_place, places_taken}
 use Rattle.strict.specs.Commutativity.{Signature, holder}
 use Rattle.strict.specs.Operations.{Op, begun, kind}
 use Rattle.strict.specs.Tiles.{member}
@@ -17,7 +16,7 @@ use Rattle.strict.specs.declared.Procedure.{Procedure}
 use Rattle.strict.specs.declared.Rule.{Rule}
 use Rattle.service.specs.Entry.{key_in, op_in}
 use Rattle.service.specs.Told.{bare, decided, told_held}
-use Rattle.service.specs.World.{World, state}
+use Rattle.service.specs.World.{World, state, free_bytes}
 use Rattle.service.specs.declared.Told.{Told}
 use Rattle.rectangles.proofs.Laws.Apart.{holds_not}
 use Rattle.rectangles.specs.Rectangles.{first_held, first_of, list_refusals, most_in_rectangle, needed}
@@ -29,6 +28,8 @@ use Rattle.admission.specs.Verdicts.{book_of, held_or}
 use Rattle.rules.specs.Rules.{wants_place}
 use Rattle.tiles.specs.declared.Spot.{Spot}
 use Rattle.admission.specs.declared.Holder.{Holder}
+use Rattle.service.specs.Admission.{open_marks}
+use Rattle.service.specs.Limits.{operation_size, short_size}
 
 -- what one look means
 abbrev pub Sees : Rule → Book → ℕ → Procedure → ℕ → Result Bool Holder → Type 0
@@ -140,3 +141,25 @@ module _ (w : World) (job : ℕ) (p : Procedure) (ks : List ℕ) where
 
     pub room_told : (t : Told) → t ≡ decided (room_for w need (length ks)) (bare 0) → t ≡ decided (list_refusals w job p ks) (bare 0)
     room_told t e = e ∙ sym (rw h.0 (ap (λ a. decided (room_for w a (length ks)) (bare 0)) h.1))
+
+pub counts : (need : ℕ) (b : Bool) → b ≡ true → need + 1 ≡ need + one_if b
+counts need b e = rw e
+
+pub counts_not : (need : ℕ) (b : Bool) → b ≡ false → need ≡ need + one_if b
+counts_not need b e = rw e (omega arith)
+
+-- THE ROOM: 7, 8 and 9
+module _ (w : World) (need n : ℕ) where
+  pub no_places : length w.tiles < places_taken w.session.rule (state w).book + need → bare 7 ≡ decided (room_for w need n) (bare 0)
+  no_places h = rw (lt-ltb _ _ h)
+
+  module _ (places : places_taken w.session.rule (state w).book + need ≤ length w.tiles) where
+    pub no_slots : length w.operations < length (state w).book.table + n → bare 8 ≡ decided (room_for w need n) (bare 0)
+    no_slots h = rw (le-ltb _ _ places, lt-ltb _ _ h)
+
+    module _ (slots : length (state w).book.table + n ≤ length w.operations) where
+      pub no_bytes_lem : free_bytes w < operation_size * n + short_size * open_marks w.session.marks → bare 9 ≡ decided (room_for w need n) (bare 0)
+      no_bytes_lem h = rw (le-ltb _ _ places, le-ltb _ _ slots, lt-ltb _ _ h)
+
+      pub room_enough : operation_size * n + short_size * open_marks w.session.marks ≤ free_bytes w → bare 0 ≡ decided (room_for w need n) (bare 0)
+      room_enough h = rw (le-ltb _ _ places, le-ltb _ _ slots, le-ltb _ _ h)

@@ -1,4 +1,4 @@
-// What differs by the session's rule, one function for each: the test of the entries, the places spoken for, and who holds a new operation.
+// What differs by the session's rule, which is data in the session and no closure, one function for each: the test of the entries, the places spoken for, and who holds a new operation.
 #![tactic(auto)]
 
 ghost use Rattle.std.specs.Prelude.{map, ◌≡◌, ◌≤◌, length};
