@@ -54,7 +54,7 @@ impl Output {
 }
 
 // A line on standard error. Where it cannot be written, there is no place left to say so.
-pub fn complain<D: Display + Drop>(errors: Stderr, complaint: D) {
+pub fn complain_line<D: Display + Drop>(errors: Stderr, complaint: D) {
     let _ = errors.println(complaint);
 }
 
