@@ -9,17 +9,18 @@ use terminal::Output;
 // Answers one command on what is lent.
 fn answer(
     out: &mut Output,
-    request: Request,
+    command: Command,
     session: Session,
     tiles: &mut [u32],
     operations: &mut [u64],
     journal: &mut [u8],
 ) -> Session {
-    match request {
-        Request::Call(call) => return desk::answer(out, call, session, tiles, operations, journal),
-        Request::Put(put) => return desk::put(out, put, session, tiles, operations, journal),
-        Request::Look(look) => looks::look(out, look, session, tiles, operations, journal),
-        Request::Show => picture::show(out, session, tiles, operations, journal),
+    match command {
+        Command::OnLent(Request::Show) => picture::show(out, session, tiles, operations, journal),
+        Command::OnLent(Request::Look(_)) => {
+            looks::look(out, command, session, tiles, operations, journal);
+        }
+        _ => return desk::answer(out, command, session, tiles, operations, journal),
     }
     session
 }
@@ -42,10 +43,10 @@ pub fn answer_line(
             desk
         }
         Some(Command::Lend(places)) => desk::lend(out, desk, places, tiles, operations, journal),
-        Some(Command::OnLent(request)) => Desk {
+        Some(command) => Desk {
             session: answer(
                 out,
-                request,
+                command,
                 desk.session,
                 &mut tiles[..desk.tiles],
                 &mut operations[..desk.operations],

@@ -4,10 +4,8 @@
 ghost use Rattle.std.specs.Prelude.{◌≡◌};
 ghost use Rattle.desk.specs.Lent.{Lent};
 
-pub use calls::answer;
-pub use outside::put;
 use sanbirogu::Session;
-use script::Places;
+use script::{Command, Places, Request};
 use terminal::Output;
 
 mod calls;
@@ -63,5 +61,28 @@ pub fn lend(
         tiles: places.tiles,
         operations: places.operations,
         journal: places.journal,
+    }
+}
+
+// Answers a call on what is lent, or a change from outside. Any other command is none of the desk's.
+pub fn answer(
+    out: &mut Output,
+    command: Command,
+    session: Session,
+    tiles: &mut [u32],
+    operations: &mut [u64],
+    journal: &mut [u8],
+) -> Session {
+    match command {
+        Command::OnLent(Request::Call(call)) => {
+            calls::answer(out, call, session, tiles, operations, journal)
+        }
+        Command::OnLent(Request::Put(put)) => {
+            outside::put(out, put, session, tiles, operations, journal)
+        }
+        _ => {
+            answers::refuse(out);
+            session
+        }
     }
 }

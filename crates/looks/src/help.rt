@@ -2,9 +2,8 @@ use terminal::Output;
 
 // What each command is for, with its numbers.
 pub fn print_commands(out: &mut Output) {
-    write!(
-        out,
-        "\
+    out.write_all(
+        b"\
 lend TILES OPERATIONS BYTES   lend so many places (5000, 1200, 66000 at most), all 0
 start COUNT RULE              start on the first COUNT tiles, by rule 1 or 2
 open JOB                      open a job, 0 to 63

@@ -2,7 +2,7 @@
 #![tactic(auto)]
 
 use sanbirogu::Session;
-use script::Look;
+use script::{Command, Look, Request};
 use terminal::Output;
 
 mod checksum;
@@ -40,18 +40,22 @@ fn run_mend(
     length: usize,
     room: usize,
 ) {
+    let Some(used) = journal.get(..length) else {
+        answers::refuse(out);
+        return;
+    };
     let mut space = [255u8; 66000];
-    match (journal.get(..length), space.get_mut(..room)) {
-        (Some(used), Some(output)) => {
+    match space.get_mut(..room) {
+        None => answers::refuse(out),
+        Some(output) => {
             let mended = sanbirogu::mend(used, tiles, count, operations, output);
             answers::print_mended(out, mended, checksum::sum_of_bytes(output));
         }
-        _ => answers::refuse(out),
     }
 }
 
 // Answers what only looks.
-pub fn look(
+fn answer(
     out: &mut Output,
     look: Look,
     session: Session,
@@ -76,4 +80,20 @@ pub fn look(
         Look::Sum => answers::print_sum(out, checksum::sum(session, tiles, operations, journal)),
         Look::Help => help::print_commands(out),
     }
+}
+
+// Whether a command only looks; it is answered then.
+pub fn look(
+    out: &mut Output,
+    command: Command,
+    session: Session,
+    tiles: &mut [u32],
+    operations: &mut [u64],
+    journal: &[u8],
+) -> bool {
+    let Command::OnLent(Request::Look(look)) = command else {
+        return false;
+    };
+    answer(out, look, session, tiles, operations, journal);
+    true
 }
