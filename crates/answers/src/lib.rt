@@ -113,8 +113,8 @@ pub fn print_mended(out: &mut Output, mended: Mended, sum: u64) {
 
 // The tiles of each level, from the lowest zoom to the highest, as the session has them to hand.
 pub fn list_levels(out: &mut Output, session: Session) {
-    for tiles in session.levels {
-        write!(out, " {tiles}");
+    for zoom in 4..=14u8 {
+        write!(out, " {}", sanbirogu::tiles_of_zoom(session, zoom));
     }
 }
 
@@ -134,9 +134,9 @@ pub fn print_lent(out: &mut Output, tiles: usize, operations: usize, journal: us
 
 // What is no command, or names a place that is not lent.
 pub fn refuse(out: &mut Output) {
-    writeln!(out, "?");
+    out.write_all(b"?\n");
 }
 
 pub fn agree(out: &mut Output) {
-    writeln!(out, "ok");
+    out.write_all(b"ok\n");
 }
