@@ -9,11 +9,17 @@ ghost use Rattle.service.specs.Sound.{as_left, changing, settled_B};
 ghost use Rattle.filter.specs.Filter.{elsewhere};
 ghost use Rattle.settling.specs.Tests.{settled_at};
 
-// Whether no entry has the tile `key`.
+// Whether no entry has the tile `key`. It looks at all of them: a loop that is left early is not compiled to compare several at a time.
 fn tile_free(entries: &[u64], key: u32) -> bool
     ensures { result ≡ elsewhere key entries.now }
 {
-    !entries.iter().any(|e| layout::key_in(*e) == key)
+    let mut free = true;
+    for e in entries {
+        if layout::key_in(*e) == key {
+            free = false;
+        }
+    }
+    free
 }
 
 // Whether an entry's tile is as its kind left it.

@@ -29,7 +29,7 @@ loop-bit-preserved c =
       | else-at-step-via-else-at-step w ↦ let h = at_most c.args.key c.args.keys.now in omega arith
     ]
 
-pub returns-then-keys : goal.returns-then-keys
-returns-then-keys c =
+pub returns-then-keys-lt-FEW : goal.returns-then-keys-lt-FEW
+returns-then-keys-lt-FEW c =
     let point = IsPartitionPoint-from_clause (λ y. ltb y c.args.key) c.args.keys.now c.partition_point.result c.partition_point.ensures.partitioned (ascending_parted c.args.key c.args.keys.now c.requires) (λ a r f k. search rules) in
     point_place c.args.key c.args.keys.now c.partition_point.result c.partition_point.ensures.bound point
