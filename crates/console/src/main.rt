@@ -97,7 +97,7 @@ fn answer_input(
     };
     // a read takes what is there
     while 0 < reached.left {
-        let Ok(bytes) = terminal::read_some(source, space, reached.at) else {
+        let Ok(bytes) = terminal::read_some_counted(source, space, reached.at) else {
             writeln!(out, "unreadable input");
             return;
         };

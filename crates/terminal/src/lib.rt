@@ -1,7 +1,7 @@
 // What the programs share: all of standard input, and text on standard output and standard error.
 #![tactic(auto)]
 
-ghost use Rattle.std.specs.Prelude.{◌≡◌, ◌-◌, ◌≤◌, length, IsErr, is_err};
+ghost use Rattle.std.specs.Prelude.{◌≡◌, ◌-◌, ◌≤◌, length, IfOk, IsErr, is_err};
 ghost use Rattle.terminal.specs.Counts.{IsPrefixLen};
 ghost use Rattle.terminal.specs.Inputs.{bytes_in};
 
@@ -59,14 +59,42 @@ pub fn complain_line<D: Display + Drop>(errors: Stderr, complaint: D) {
     let _ = errors.println(complaint);
 }
 
+// One read into the places from `from` on: what is there by now, at a terminal a line. No byte comes where the input has ended.
+pub fn read_some(mut source: Stdin, space: &mut [u8], from: usize) -> io::Result<usize>
+    requires { from ≤ length space.old }
+    ensures { IfOk result (λ bytes. bytes ≤ length space.old - from) }
+{
+    source.read(&mut space[from..])
+}
+
+// Reads until the input ends, reading fails or the space is full.
+pub fn read_all(source: Stdin, space: &mut [u8]) -> io::Result<usize>
+    ensures { IfOk result (λ bytes. IsPrefixLen bytes space.new) }
+{
+    let mut used: usize = 0;
+    // A read takes what is there: how far it gets is no count.
+    while used < space.len() {
+        let bytes = read_some(source, space, used)?;
+        if bytes == 0 {
+            break;
+        }
+        used += bytes;
+    }
+    Ok(used)
+}
+
 // A read that failed, and how many bytes had come before it.
 #[derive(Clone, Copy)]
 pub struct Unreadable {
     pub bytes: usize,
 }
 
-// One read into the places from `from` on: what is there by now, at a terminal a line. No byte comes where the input has ended.
-pub fn read_some(mut source: Stdin, space: &mut [u8], from: usize) -> Result<usize, Unreadable>
+// Reads as `read_some` does; of a read that failed it tells how many bytes had come, and not what it was.
+pub fn read_some_counted(
+    mut source: Stdin,
+    space: &mut [u8],
+    from: usize,
+) -> Result<usize, Unreadable>
     requires { from ≤ length space.old }
     ensures { bytes_in result ≤ length space.old - from }
 {
@@ -76,14 +104,14 @@ pub fn read_some(mut source: Stdin, space: &mut [u8], from: usize) -> Result<usi
     }
 }
 
-// Reads until the input ends, reading fails or the space is full.
-pub fn read_all(source: Stdin, space: &mut [u8]) -> Result<usize, Unreadable>
+// Reads as `read_all` does, and tells of a read that failed as `read_some_counted` does.
+pub fn read_all_counted(source: Stdin, space: &mut [u8]) -> Result<usize, Unreadable>
     ensures { IsPrefixLen (bytes_in result) space.new }
 {
     let mut used: usize = 0;
     // A read takes what is there: how far it gets is no count.
     while used < space.len() {
-        match read_some(source, space, used) {
+        match read_some_counted(source, space, used) {
             Ok(0) => break,
             Ok(bytes) => used += bytes,
             Err(_) => return Err(Unreadable { bytes: used }),
